@@ -244,7 +244,7 @@ Writes the receipt, unless REPLICA has it already."
          (changes (or changes 1))
          (own (domepeeler--replica-changes (domepeeler--of recording author))))
     (when (= most 0)
-      (domepeeler--refuse "the clock counts no change of replica %d, whose update it is" author))
+      (domepeeler--refuse "this is an update of replica %d, but its clock counts no change of replica %d" author author))
     (unless (domepeeler--whole changes 1 most "number of changes")
       (domepeeler--refuse "an update carries 1 to %d of the changes that its clock counts, not %d" most changes))
     (let ((have (domepeeler--has recording replica author))
@@ -267,7 +267,7 @@ RECORDING keeps which lines it wrote."
   (when (domepeeler-recording-only recording)
     (domepeeler--refuse "one replica's log can't say that everything has arrived: the others are recorded elsewhere"))
   (let* ((replicas (domepeeler-recording-replicas recording))
-         (wanted (format "delivered wants the list of each of the %d replicas, not " (length replicas))))
+         (wanted (format "delivered takes one list for each of the %d replicas, not " (length replicas))))
     (unless (or (vectorp lists) (proper-list-p lists))
       (domepeeler--refuse "%s%s" wanted (domepeeler--shown lists)))
     (unless (= (length lists) (length replicas))
@@ -418,7 +418,7 @@ PROGRAM is by default that of the environment's DOMEPEELER, or \"domepeeler\"."
 
 (domepeeler--defun domepeeler-explain (recording &optional explainer weak)
   "What the report on RECORDING means, in words.
-At the end stand the ids of the numbered names, and the notes.  EXPLAINER
+Before the last section stand the ids of the numbered names, and the notes.  EXPLAINER
 is by default that of the environment's DOMEPEELER_EXPLAIN, or
 \"domepeeler-explain\", beside the program of DOMEPEELER or where programs
 are found.  With WEAK the weak list specification alone is asked for."
@@ -428,15 +428,17 @@ are found.  With WEAK the weak list specification alone is asked for."
          (said (apply #'domepeeler--ask recording named "the tool's path in DOMEPEELER_EXPLAIN" "." "words" "--language" "emacs-lisp"
                       (append (and weak '("--weak"))
                               (cl-loop for range in (reverse delivered) append (list "--delivered" range)) (list "-"))))
-         (words (make-hash-table :test #'equal)))
+         (words (make-hash-table :test #'equal))
+         (last (or (string-match "\nThe list specifications\n" said) (length said))))
     (dolist (word (split-string said "[^A-Za-z0-9]+"))
       (puthash word t words))
-    (concat said
+    (concat (substring said 0 last)
             (domepeeler--section "Ids that were too long for a name"
                                  (cl-loop for (name . id) in (domepeeler-ids recording)
                                           when (and (string-prefix-p "long" name) (gethash name words))
                                           collect (format "%s: %s" name (domepeeler--escaped id))))
-            (domepeeler--section "Noted" (reverse (domepeeler-recording-notes recording))))))
+            (domepeeler--section "Noted" (reverse (domepeeler-recording-notes recording)))
+            (substring said last))))
 
 (defvar domepeeler-weak nil
   "Whether `domepeeler-with-recording' lets a recording pass where weak holds.")
@@ -670,7 +672,7 @@ What is no name but an id gets a name that no other id has."
       (when (or (= (length given) domepeeler--bytes) (string-match-p "\\`long\\|-" given)) ; others never stand for an id
         (let ((had (gethash given ids)))
           (when (and had (not (string= had given)))
-            (domepeeler--refuse "name \"%s\" stands for the id \"%s\" already" given (domepeeler--escaped had)))
+            (domepeeler--refuse "name \"%s\" is already used for the id \"%s\"" given (domepeeler--escaped had)))
           (unless had (domepeeler--keep recording given given))))
       given)
      ((or (> (string-bytes given) domepeeler--bytes) (string-match-p "\\`[A-Za-z0-9_.@,-]+\\'" given))
@@ -748,7 +750,7 @@ A letter stands first, as `2-0' would look like an operation's name."
       (when (> (+ inserts (domepeeler--replica-inserts own)) domepeeler--inserts)
         (domepeeler--full "replica %d has %d inserts, the most that a trace takes" replica domepeeler--inserts))
       (when (> names domepeeler--names)
-        (domepeeler--full "a response of %d names, the most that a trace takes is %d" names domepeeler--names))
+        (domepeeler--full "a response of %d names; a trace takes at most %d" names domepeeler--names))
       (when (> places domepeeler--places)
         (domepeeler--full "%d names over the responses of replica %d, the most that a trace takes is %d"
                           places replica domepeeler--places))
@@ -767,8 +769,10 @@ A letter stands first, as `2-0' would look like an operation's name."
 (cl-defstruct (domepeeler--entries (:copier nil))
   (lines (make-hash-table))  ; by place from 1: the lines of its changes
   receiving                  ; whether it has receipts
-  since                      ; those since its last operation, the last one first: author, number and line
-  shown)                     ; the names that it showed last, or nil
+  since                      ; those since its last list, the last one first: author, number and line
+  viewed                     ; whether a view follows these
+  shown                      ; the names of that list, which a view is not, or nil
+  (last 0))                  ; the number of that operation
 
 (cl-defstruct (domepeeler--warned (:copier nil))
   entries     ; of each replica, a vector
@@ -790,13 +794,16 @@ A letter stands first, as `2-0' would look like an operation's name."
                    (own (aref entries replica)))
         (if (string= kind "recv")
             (progn
-              (setf (domepeeler--entries-receiving own) t)
+              (setf (domepeeler--entries-receiving own) t
+                    (domepeeler--entries-viewed own) nil)
               (push (list (string-to-number third) (string-to-number fourth) line) (domepeeler--entries-since own)))
           (let* ((names (substring entry (1+ colon)))
                  (named (format "line %d, %d.%d: replica %d" line replica (cl-incf (aref operations replica)) replica)))
-            (setf (domepeeler--entries-since own) nil)
+            (setf (domepeeler--entries-viewed own) (string= kind "view"))
             (unless (string= kind "view")
-              (setf (domepeeler--entries-shown own) names))
+              (setf (domepeeler--entries-since own) nil
+                    (domepeeler--entries-last own) (aref operations replica)
+                    (domepeeler--entries-shown own) names))
             (when (member kind '("ins" "del"))
               (puthash (1+ (hash-table-count (domepeeler--entries-lines own))) line (domepeeler--entries-lines own)))
             (when (string= kind "del")
@@ -805,7 +812,7 @@ A letter stands first, as `2-0' would look like an operation's name."
               (puthash third t inserted)
               (let ((before (1- (length (split-string names " " t)))))
                 (when (> (string-to-number fourth) before)
-                  (push (format "%s inserted %s at position %s of a list of %d, so at its end: %s" named third fourth before
+                  (push (format "%s inserted %s at position %s of a list of length %d, which counts as its end: %s" named third fourth before
                                 "is that the position that was asked for?")
                         past-end))))))))
     (make-domepeeler--warned
@@ -848,7 +855,7 @@ And which changes never arrived at which replica."
            (lost (if (= count 1) "it was lost or is still held back" "they were lost or are still held back"))
            (groups (mapcar (lambda (pair) (reverse (cdr pair))) (reverse lists)))
            (same (cl-loop for group in groups
-                          when (cdr group) collect (format "%s the same one" (domepeeler--joined group))))
+                          when (cdr group) collect (format "%s show the same one" (domepeeler--joined group))))
            (told (format "in the end replicas %s show different lists%s" (domepeeler--joined (sort (apply #'append groups) #'<))
                          (if same (format " (%s)" (domepeeler--joined same)) ""))))
       (cond
@@ -887,19 +894,21 @@ None of an author of which it never hears."
                            "At the end of a session let everyone receive everything, and read")))
 
 (defun domepeeler--unshown (recording warned)
-  "Of replicas whose last receipts bring changes, and that show nothing after them."
+  "Of replicas whose last receipts bring changes, and that show no list after them.
+A view is none."
   (cl-loop for replica in (domepeeler--acting recording)
            for news = (domepeeler--news recording warned replica)
+           for viewed = (domepeeler--entries-viewed (aref (domepeeler--warned-entries warned) replica))
            when news
-           collect (format "replica %d received %s last, and nothing shows what it made of %s: let each replica read at the end"
-                           replica (domepeeler--listed news) (if (cdr news) "them" "that"))))
+           collect (format "replica %d received %s last, and nothing%s shows what it made of %s: let each replica read at the end"
+                           replica (domepeeler--listed news) (if viewed " but a view" "") (if (cdr news) "them" "that"))))
 
 (defun domepeeler--news (recording warned replica)
-  "The receipts since REPLICA's last operation that bring changes.
+  "The receipts since REPLICA's last list that bring changes.
 Each is told with its line."
-  (let* ((own (domepeeler--of recording replica))
-         (n (domepeeler--replica-operations own))
-         (has (copy-sequence (gethash n (domepeeler--replica-pasts own)))))
+  (let* ((n (domepeeler--entries-last (aref (domepeeler--warned-entries warned) replica)))
+         (has (copy-sequence (gethash n (domepeeler--replica-pasts (domepeeler--of recording replica))
+                                      (make-vector (length (domepeeler-recording-replicas recording)) 0)))))
     (aset has replica n)
     (cl-loop for (author n line) in (reverse (domepeeler--entries-since (aref (domepeeler--warned-entries warned) replica)))
              for past = (copy-sequence (gethash n (domepeeler--replica-pasts (domepeeler--of recording author))))

@@ -726,7 +726,7 @@ static inline const char *domepeeler_own_name(struct domepeeler *d, const char *
     char shown[sizeof d->why];
     if (one ? strcmp(one->id, given) == 0 : domepeeler_keep(d, given, given)) return given;
     if (!one) domepeeler_refuse(d, 0, "no memory");
-    else domepeeler_refuse(d, 0, "name \"%s\" stands for the id \"%s\" already", given, domepeeler_escaped(one->id, shown, sizeof shown));
+    else domepeeler_refuse(d, 0, "name \"%s\" is already used for the id \"%s\"", given, domepeeler_escaped(one->id, shown, sizeof shown));
     return NULL;
 }
 
@@ -762,7 +762,7 @@ static inline unsigned domepeeler_fits(struct domepeeler *d, int replica, unsign
         return domepeeler_refuse(d, 1, "replica %d has %d inserts, the most that a trace takes", replica,
                                  DOMEPEELER_INSERTS);
     if (names > DOMEPEELER_NAMES)
-        return domepeeler_refuse(d, 1, "a response of %zu names, the most that a trace takes is %d", names,
+        return domepeeler_refuse(d, 1, "a response of %zu names; a trace takes at most %d", names,
                                  DOMEPEELER_NAMES);
     if (own->places + names > DOMEPEELER_PLACES)
         return domepeeler_refuse(d, 1,
@@ -919,7 +919,7 @@ static inline unsigned domepeeler_delivered_now(struct domepeeler *d, const char
     if (d->only >= 0)
         return domepeeler_refuse(d, 0, "one replica's log can't say that everything has arrived: the others are recorded elsewhere");
     if (count != (size_t)d->replicas)
-        return domepeeler_refuse(d, 0, "delivered wants the list of each of the %d replicas, not of %zu", d->replicas, count);
+        return domepeeler_refuse(d, 0, "delivered takes one list for each of the %d replicas, not of %zu", d->replicas, count);
     if (!domepeeler_one_more_delivery(d)) return domepeeler_refuse(d, 0, "no memory");
     memcpy(before, d->of, sizeof before);
     unsigned is_said = 1;
@@ -1025,7 +1025,7 @@ static inline unsigned domepeeler_received_clock_now(struct domepeeler *d, int r
     if (author == replica) return domepeeler_refuse(d, 0, "replica %d receives no operation of its own", replica);
     if (!domepeeler_check_clock(d, clock, counts)) return 0;
     unsigned most = clock[author], *own = d->of[author].changes, have = domepeeler_has(d, replica, author);
-    if (!most) return domepeeler_refuse(d, 0, "the clock counts no change of replica %d, whose update it is", author);
+    if (!most) return domepeeler_refuse(d, 0, "this is an update of replica %d, but its clock counts no change of replica %d", author, author);
     if (changes < 1 || changes > most)
         return domepeeler_refuse(d, 0, "an update carries 1 to %u of the changes that its clock counts, not %u", most, changes);
     for (unsigned i = most - changes; i < most; i++)
@@ -1054,11 +1054,12 @@ struct domepeeler_event {
     struct domepeeler_span name;
 };
 
-/* What the entries of one replica in the text say: its operations; the lines of its changes; whether it has receipts, and which came
- * since its last operation; the names of the list that it showed last, or NULL. */
+/* What the entries of one replica in the text say: its operations; the lines of its changes; whether it has receipts; the names of the list
+ * that it showed last, which a view is not, or NULL, and the number of that operation; which receipts came since, and whether a view
+ * follows them. */
 struct domepeeler_entries {
-    unsigned operations, changed, since;
-    int is_receiving;
+    unsigned operations, changed, since, last;
+    int is_receiving, is_viewed;
     size_t *lines;
     struct domepeeler_event *arrived;
     const char *shown;
@@ -1106,8 +1107,8 @@ static inline void domepeeler_read_operation(struct domepeeler_warned *w, int re
     struct domepeeler_entries *own = &w->of[replica];
     const char *name = strchr(kind, ' ') + 1, *colon = strchr(kind, ':'), *end = strchr(kind, '\n');
     struct domepeeler_event event = {replica, ++own->operations, line, {name, strcspn(name, " ")}};
-    own->since = 0;
-    if (*kind != 'v') own->shown = colon + 1;
+    own->is_viewed = *kind == 'v';
+    if (!own->is_viewed) own->shown = colon + 1, own->since = 0, own->last = own->operations;
     if (*kind != 'i' && *kind != 'd') return; /* ins, del */
     own->lines[own->changed++] = line;
     if (*kind == 'd') {
@@ -1118,7 +1119,7 @@ static inline void domepeeler_read_operation(struct domepeeler_warned *w, int re
     long long before = -1, position = atoll(event.name.at + event.name.length);
     for (const char *letter = colon; letter < end; letter++) before += *letter == ' ';
     if (position <= before || w->ends++ >= DOMEPEELER_TOLD) return;
-    domepeeler_say(&w->past_end, "line %zu, %d.%u: replica %d inserted %.*s at position %lld of a list of %lld, so at its end: "
+    domepeeler_say(&w->past_end, "line %zu, %d.%u: replica %d inserted %.*s at position %lld of a list of length %lld, which counts as its end: "
                                  "is that the position that was asked for?\n", line, replica, event.n, replica,
                    (int)event.name.length, event.name.at, position, before);
 }
@@ -1136,6 +1137,7 @@ static inline void domepeeler_read_entries(struct domepeeler_warned *w) {
         int author = (int)strtol(kind + 4, &kind, 10);
         struct domepeeler_event event = {author, (unsigned)strtoul(kind, NULL, 10), line, {NULL, 0}};
         own->is_receiving = 1;
+        own->is_viewed = 0;
         own->arrived[own->since++] = event;
     }
 }
@@ -1242,7 +1244,7 @@ static inline void domepeeler_say_different(const struct domepeeler_warned *w) {
             if (like[i] != i || domepeeler_say_alike(w, &none, like, i) < 2) continue;
             domepeeler_say(w->said, "%s", told ? domepeeler_joint(told, groups) : " (");
             domepeeler_say_alike(w, w->said, like, i);
-            domepeeler_say(w->said, " the same one%s", ++told == groups ? ")" : "");
+            domepeeler_say(w->said, " show the same one%s", ++told == groups ? ")" : "");
         }
         if (count) domepeeler_say(w->said, ": %s by this recording. If everything was delivered, %s", never.text ? never.text : "", lost);
         domepeeler_say(w->said, "\n");
@@ -1270,15 +1272,15 @@ static inline void domepeeler_say_unheard(const struct domepeeler_warned *w) {
     }
 }
 
-/* Of replicas whose last receipts bring changes, and are followed by nothing that they show. */
+/* Of replicas whose last receipts bring changes, and are followed by no list that they show, or by a view alone. */
 static inline void domepeeler_say_unshown(struct domepeeler_warned *w) {
     for (int i = 0; i < w->d->replicas; i++) {
         const struct domepeeler_replica *own = &w->d->of[i];
         struct domepeeler_entries *entries = &w->of[i];
-        unsigned has[DOMEPEELER_REPLICAS], news = 0;
+        unsigned has[DOMEPEELER_REPLICAS] = {0}, news = 0;
         if (!own->operations) continue;
-        memcpy(has, own->pasts[own->operations - 1], sizeof has);
-        has[i] = own->operations;
+        if (entries->last) memcpy(has, own->pasts[entries->last - 1], sizeof has);
+        has[i] = entries->last;
         for (unsigned k = 0; k < entries->since; k++) {
             struct domepeeler_event event = entries->arrived[k];
             int is_new = 0;
@@ -1293,8 +1295,8 @@ static inline void domepeeler_say_unshown(struct domepeeler_warned *w) {
         if (!news) continue;
         domepeeler_say(w->said, "replica %d received ", i);
         domepeeler_say_changes(w->d, w->said, entries->arrived, news);
-        domepeeler_say(w->said, " last, and nothing shows what it made of %s: let each replica read at the end\n",
-                       news == 1 ? "that" : "them");
+        domepeeler_say(w->said, " last, and nothing%s shows what it made of %s: let each replica read at the end\n",
+                       entries->is_viewed ? " but a view" : "", news == 1 ? "that" : "them");
     }
 }
 
@@ -1692,12 +1694,13 @@ static inline void domepeeler_say_with_places(const struct domepeeler *d, struct
     domepeeler_say(whole, "%s", said);
 }
 
-/* What is said, with the places of the lines in it, and behind it the ids of the numbered names in it, and the notes. */
+/* What is said, with the places of the lines in it, the ids of the numbered names in it, and the notes before its last section. */
 static inline char *domepeeler_with_ids(struct domepeeler *d, char *said) {
     struct domepeeler_words whole = {NULL, 0, 0, 0};
     const char *title = "\nIds that were too long for a name\n";
-    char *named = (char *)calloc(DOMEPEELER_HEAD + d->called + 1, 1);
+    char *named = (char *)calloc(DOMEPEELER_HEAD + d->called + 1, 1), *last = strstr(said, "\nThe list specifications\n");
     domepeeler_say_refused(d, &whole, "\n\n");
+    if (last) *last = '\0';
     domepeeler_say_with_places(d, &whole, said);
     if (named) domepeeler_say_named(d, &whole, said, named);
     whole.is_short |= !named;
@@ -1719,6 +1722,7 @@ static inline char *domepeeler_with_ids(struct domepeeler *d, char *said) {
         if (note[first]) domepeeler_say(&whole, "\\x%02x%s", (unsigned char)note[first], note + first + 1);
         domepeeler_say(&whole, "\n");
     }
+    if (last) domepeeler_say(&whole, "\n%s", last + 1);
     free(said);
     return domepeeler_said(d, &whole);
 }

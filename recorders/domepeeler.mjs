@@ -53,10 +53,11 @@ const COMMAND = /^ *(?=::|##)/ // stands before the signs with which a line of a
 const MOST_WARNED = 5 // deletes, or inserts, that are warned of one by one
 const MOST_LACKED = 3 // changes that are warned of one by one of those that a replica lacks, or has made nothing of
 const LINE = /\bline (\d+)(?=[,):]| of the trace,| \(\d+ recv )/g // a line of the trace in the explainer's words
+const LAST = "\nThe list specifications\n" // the title of the last section there
 const WARNINGS = /^What this verdict may hide\n(?:  .*\n)*/m // a section there
 const NAMED = /\(line (\d+)\)/g // a line in a warning, whose place is put behind it
 // The statement for a debugger.
-const STATEMENT = /^(  stop before line (\d+), .*?) In [A-Z][A-Za-z ]*, where (?:a change begins to be applied, local or remote|the list is read): .*/gm
+const STATEMENT = /^(  stop before line (\d+), .*?) In [A-Z][A-Za-z ]*, put this where your code [a-z, ]+: .*/gm
 // A line of a stack, with the path or the URL of a file, and the line in it.
 const FRAME = /^ +at (?:async |.*\()?((?:[a-z]{2,}:\/\/|\/|[A-Za-z]:[\\/]).*:\d+):\d+\)?$/
 const OWN = String(import.meta.url)
@@ -178,7 +179,7 @@ export class Recording {
     this.#known(author)
     this.#ofAnother(replica, author)
     const counts = this.#counts(clock)
-    if (!counts[author]) throw new Refused(`the clock counts no change of replica ${author}, whose update it is`)
+    if (!counts[author]) throw new Refused(`this is an update of replica ${author}, but its clock counts no change of replica ${author}`)
     if (!whole(changes, 1, counts[author])) {
       throw new Refused(Number.isInteger(changes)
         ? `an update carries 1 to ${counts[author]} of the changes that its clock counts, not ${changes}`
@@ -347,7 +348,7 @@ export class Recording {
     return new NotAccepted(this.#stopped)
   }
 
-  /** A promise of what the report means, in words, and behind them the lines of your code or log, the ids of the numbered names, and your
+  /** A promise of what the report means, in words, with the lines of your code or log, the ids of the numbered names, and your
    * notes. With `weak`, where the weak list specification alone is asked for. The tool is the words that are given, that of
    * $DOMEPEELER_EXPLAIN, or `domepeeler-explain`, beside the program of $DOMEPEELER or on the PATH. */
   async explain(explainer = null, { weak = false } = {}) {
@@ -363,7 +364,7 @@ export class Recording {
     const words = new Set(done.stdout.match(/[A-Za-z0-9]+/g))
     const named = [...this.ids()].filter(([short]) => words.has(short) && short.startsWith("long"))
     const told = named.map(([short, given]) => `${short}: ${escaped(given)}`)
-    return this.#withPlaces(node, done.stdout) + section("Ids that were too long for a name", told) + section("Noted", this.#notes)
+    return beforeLast(this.#withPlaces(node, done.stdout), section("Ids that were too long for a name", told) + section("Noted", this.#notes))
   }
 
   // What puts behind each line of the trace that a warning names in brackets its nearest place in your code or log.
@@ -375,7 +376,7 @@ export class Recording {
     })
   }
 
-  // The words, and behind them the places of the lines of the trace that they name.
+  // The words, with the places of the lines of the trace that they name.
   #withPlaces(node, said) {
     said = said.replace(WARNINGS, this.#nearest(node))
     const named = new Set([...said.matchAll(LINE)].map(([, line]) => Number(line)))
@@ -389,7 +390,7 @@ export class Recording {
     for (const [, places] of found) lines.set(places, [])
     for (const [line, places] of found) lines.get(places).push(line)
     const told = [...lines].map(([places, at]) => `${places}: line${at.length === 1 ? "" : "s"} ${joined(at)}`)
-    return said + section(`In your ${this.#hasLog ? "log" : "code"}`, told)
+    return beforeLast(said, section(`In your ${this.#hasLog ? "log" : "code"}`, told))
   }
 
   // By line of the trace the places in your code, where there are some.
@@ -483,7 +484,7 @@ export class Recording {
 
   // What `delivered` is given, as a list by replica.
   #shown(lists) {
-    const wanted = `delivered wants the list of each of the ${this.#replicas.length} replicas, not `
+    const wanted = `delivered takes one list for each of the ${this.#replicas.length} replicas, not `
     if (Array.isArray(lists)) {
       if (lists.length !== this.#replicas.length) throw new Refused(`${wanted}of ${lists.length}`)
       return Array.from(lists)
@@ -542,7 +543,7 @@ export class Recording {
       throw new Full(`replica ${replica} has ${MOST_INSERTS} inserts, the most that a trace takes`)
     }
     if (names > MOST_NAMES) {
-      throw new Full(`a response of ${names} names, the most that a trace takes is ${MOST_NAMES}`)
+      throw new Full(`a response of ${names} names; a trace takes at most ${MOST_NAMES}`)
     }
     if (own.places + names > MOST_PLACES) {
       throw new Full(`${own.places + names} names over the responses of replica ${replica}, ` +
@@ -557,7 +558,7 @@ export class Recording {
     if (NAME.test(given)) {
       if (given.length === MOST_BYTES || given.startsWith("long") || given.includes("-")) { // others never stand for an id
         const had = this.#ids.get(given) ?? given
-        if (had !== given) throw new Refused(`name "${given}" stands for the id "${escaped(had)}" already`)
+        if (had !== given) throw new Refused(`name "${given}" is already used for the id "${escaped(had)}"`)
         this.#ids.set(given, given)
       }
       return given
@@ -795,8 +796,9 @@ function hidden(lines) {
   if (lines.length === HEAD_LINES) return ["nothing was recorded: the trace has no entry, so the verdict says nothing of an editor"]
   const count = Number(lines[1].split(" ")[1])
   // Of each replica: how many operations of each one it has, now and at each operation of its own; its changes, as the numbers of these
-  // operations and their lines; what it had at its last operation, and the receipts since; and the last list that it showed.
-  const end = () => ({ has: Array(count).fill(0), pasts: [], changes: [], lines: [], receipts: 0, atLast: [], since: [], shown: null })
+  // operations and their lines; the last list that it showed, which a view is not; what it had then, the receipts since, and whether a view
+  // follows these.
+  const end = () => ({ has: Array(count).fill(0), pasts: [], changes: [], lines: [], receipts: 0, atLast: [], since: [], isViewed: false, shown: null })
   const ends = Array.from({ length: count }, end), inserted = new Set(), deletes = [], pastEnd = []
   ends.forEach((one) => { one.atLast = one.has })
   lines.slice(HEAD_LINES).forEach((entry, at) => {
@@ -807,15 +809,15 @@ function hidden(lines) {
       one.receipts += 1
       one.has = most(one.has, ends[author].pasts[n - 1])
       one.since.push({ author, n, line })
+      one.isViewed = false
       return
     }
     const n = one.pasts.length + 1
     one.has = one.has.map((have, other) => (other === replica ? n : have))
-    one.atLast = one.has
     one.pasts.push(one.has)
-    one.since = []
     const names = response.split(" ").slice(1)
-    if (kind !== "view") one.shown = names
+    one.isViewed = kind === "view"
+    if (!one.isViewed) Object.assign(one, { atLast: one.has, since: [], shown: names })
     if (kind === "ins" || kind === "del") {
       one.changes.push(n)
       one.lines.push(line)
@@ -824,7 +826,7 @@ function hidden(lines) {
       inserted.add(words[2])
       if (Number(words[3]) > names.length - 1) {
         pastEnd.push(`line ${line}, ${replica}.${n}: replica ${replica} inserted ${words[2]} at position ${words[3]} of a list of ` +
-          `${names.length - 1}, so at its end: is that the position that was asked for?`)
+          `length ${names.length - 1}, which counts as its end: is that the position that was asked for?`)
       }
     } else if (kind === "del") {
       deletes.push([words[2], `line ${line}, ${replica}.${n}: replica ${replica} deleted ${words[2]}, which no line inserts, so no ` +
@@ -863,7 +865,7 @@ function different(ends) {
   const lost = isOne ? "it was lost or is still held back" : "they were lost or are still held back"
   if (lists.size < 2) return never.length ? [`by this recording ${joined(never)}. If everything was delivered, ${lost}`] : []
   const replicas = [...lists.values()].flat().sort((a, b) => a - b)
-  const same = [...lists.values()].filter((one) => one.length > 1).map((one) => `${joined(one)} the same one`)
+  const same = [...lists.values()].filter((one) => one.length > 1).map((one) => `${joined(one)} show the same one`)
   const said = `in the end replicas ${joined(replicas)} show different lists${same.length ? ` (${joined(same)})` : ""}`
   return [never.length ? `${said}: ${joined(never)} by this recording. If everything was delivered, ${lost}` : said]
 }
@@ -894,9 +896,9 @@ function unheard(ends) {
   })
 }
 
-// Of replicas whose last receipts bring changes, and are followed by nothing that it shows.
+// Of replicas whose last receipts bring changes, and are followed by no list that it shows, or by a view alone.
 function unshown(ends) {
-  return ends.flatMap(({ pasts, atLast, since }, replica) => {
+  return ends.flatMap(({ pasts, atLast, since, isViewed }, replica) => {
     let has = atLast
     const news = since.filter(({ author, n }) => {
       const before = has
@@ -904,7 +906,7 @@ function unshown(ends) {
       return ends.some(({ changes }, other) => upTo(changes, has[other]) > upTo(changes, before[other]))
     }).map(({ author, n, line }) => `${author}.${n} (line ${line})`)
     if (!pasts.length || !news.length) return []
-    return [`replica ${replica} received ${listing(news, news.length)} last, and nothing shows what it made of ` +
+    return [`replica ${replica} received ${listing(news, news.length)} last, and nothing${isViewed ? " but a view" : ""} shows what it made of ` +
       `${news.length === 1 ? "that" : "them"}: let each replica read at the end`]
   })
 }
@@ -922,6 +924,12 @@ function joined(words) {
 // A section of an explanation; nothing where it would be empty.
 function section(title, lines) {
   return lines.length ? `\n${title}\n${lines.map((line) => `  ${plain(line)}\n`).join("")}` : ""
+}
+
+// An explanation with more sections, before its last one: what the verdict says by definition.
+function beforeLast(said, sections) {
+  const last = said.includes(LAST) ? said.lastIndexOf(LAST) : said.length
+  return said.slice(0, last) + sections + said.slice(last)
 }
 
 // A line, with its first sign as in an error where a CI service would take it for a command.
@@ -988,7 +996,7 @@ function reportIn(name, printed) {
   try {
     report = JSON.parse(printed)
   } catch { /* as what is no report at all */ }
-  if (typeof report?.verdict !== "string") throw new Error(`${escaped(name)} printed what is no report`)
+  if (typeof report?.verdict !== "string") throw new Error(`${escaped(name)} printed something that is no report`)
   return report
 }
 

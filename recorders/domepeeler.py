@@ -61,9 +61,10 @@ MORE_CHANGES = "; if the update carried more than one change, say how many (`cha
 MOST_CALLERS, MOST_FRAMES = 3, 100  # of an entry: callers that are kept, and frames that are looked at for them
 HEAD_LINES = 2  # of a trace, before its entries
 LINE = re.compile(r"\bline (\d+)(?=[,):]| of the trace,| \(\d+ recv )")  # a line of the trace in the explainer's words
+LAST = "\nThe list specifications\n"  # the title of the last section there
 WARNINGS = re.compile(r"^What this verdict may hide\n(?:  .*\n)*", re.MULTILINE)  # a section there
 NAMED = re.compile(r"\(line (\d+)\)")  # a line in a warning, whose place is put behind it
-STATEMENT = re.compile(r"^(  stop before line (\d+), .*?) In [A-Z][A-Za-z ]*, where (?:a change begins to be applied, local or remote|the list is read): .*",
+STATEMENT = re.compile(r"^(  stop before line (\d+), .*?) In [A-Z][A-Za-z ]*, put this where your code [a-z, ]+: .*",
                        re.MULTILINE)  # for a debugger
 MOST_WARNED = 5  # deletes, or inserts, that are warned of one by one
 MOST_CHANGES = 3  # that are warned of one by one of those that a replica lacks, or has made nothing of
@@ -241,7 +242,7 @@ class Recording:
         self._of_another(replica, author)
         counts = self._counts(clock)
         if not counts[author]:
-            raise Refused(f"the clock counts no change of replica {author}, whose update it is")
+            raise Refused(f"this is an update of replica {author}, but its clock counts no change of replica {author}")
         if not _whole(changes, 1, counts[author]):
             raise Refused(f"an update carries 1 to {counts[author]} of the changes that its clock counts, not {changes}"
                           if _is_int(changes) else _not_whole("number of changes", changes, 1, counts[author]))
@@ -380,7 +381,7 @@ class Recording:
 
     @_alone
     def explain(self, explainer: Optional[Words] = None, weak: bool = False) -> str:
-        """What the report means, in words, and behind them the lines of your code or log, the ids of the numbered names, and your notes.
+        """What the report means, in words, with the lines of your code or log, the ids of the numbered names, and your notes.
         With `weak`, where the weak list specification alone is asked for. The tool is the words that are given, that of
         $DOMEPEELER_EXPLAIN, or `domepeeler-explain`, beside the program of $DOMEPEELER or on the PATH."""
         delivered = [word for first, last in self._delivered[-MOST_DELIVERED:] for word in ("--delivered", f"{first}-{last}")]
@@ -391,7 +392,7 @@ class Recording:
         said = done.stdout.decode(errors="replace")
         words = set(re.findall("[A-Za-z0-9]+", said))
         told = [f"{name}: {_escaped(given)}" for name, given in self.ids().items() if name in words and name.startswith("long")]
-        return self._with_places(said) + _section("Ids that were too long for a name", told) + _section("Noted", self._notes)
+        return _before_last(self._with_places(said), _section("Ids that were too long for a name", told) + _section("Noted", self._notes))
 
     def _with_nearest(self, warnings: str) -> str:
         """The warnings, with the nearest place in your code or log of each line of the trace that they name in brackets."""
@@ -404,7 +405,7 @@ class Recording:
         return NAMED.sub(placed, warnings)
 
     def _with_places(self, said: str) -> str:
-        """The words, and behind them the places of the lines of the trace that they name."""
+        """The words, with the places of the lines of the trace that they name."""
         said = WARNINGS.sub(lambda section: self._with_nearest(section[0]), said)
         named = {int(line) for line in LINE.findall(said)}
         found = {line: places for line, places in self._places() if line in named}
@@ -415,7 +416,7 @@ class Recording:
         for line, places in found.items():
             lines.setdefault(places, []).append(str(line))
         told = [f"{places}: line{'' if len(at) == 1 else 's'} {_joined(at)}" for places, at in lines.items()]
-        return said + _section(f"In your {'log' if self._has_log else 'code'}", told)
+        return _before_last(said, _section(f"In your {'log' if self._has_log else 'code'}", told))
 
     def _places(self) -> List[Tuple[int, str]]:
         """By line of the trace the places in your code, where there are some."""
@@ -491,7 +492,7 @@ class Recording:
 
     def _shown(self, lists: Lists) -> List[Any]:
         """What `delivered` is given, as a list by replica."""
-        wanted = f"delivered wants the list of each of the {len(self._replicas)} replicas, not "
+        wanted = f"delivered takes one list for each of the {len(self._replicas)} replicas, not "
         if isinstance(lists, (str, bytes, set, frozenset)) or not isinstance(lists, Iterable):
             raise Refused(wanted + _told(lists))
         if isinstance(lists, Mapping):
@@ -538,7 +539,7 @@ class Recording:
         if own.inserts + inserts > MOST_INSERTS:
             raise Full(f"replica {replica} has {MOST_INSERTS} inserts, the most that a trace takes")
         if names > MOST_NAMES:
-            raise Full(f"a response of {names} names, the most that a trace takes is {MOST_NAMES}")
+            raise Full(f"a response of {names} names; a trace takes at most {MOST_NAMES}")
         if own.places + names > MOST_PLACES:
             raise Full(f"{own.places + names} names over the responses of replica {replica}, "
                        f"the most that a trace takes is {MOST_PLACES}")
@@ -553,7 +554,7 @@ class Recording:
         if NAME.fullmatch(given):
             if len(given) == MOST_BYTES or given.startswith("long") or "-" in given:  # others never stand for an id
                 if self._ids.setdefault(given, given) != given:
-                    raise Refused(f'name "{given}" stands for the id "{_escaped(self._ids[given])}" already')
+                    raise Refused(f'name "{given}" is already used for the id "{_escaped(self._ids[given])}"')
             return given
         name = given.replace("-", "") if UUID.fullmatch(given) else ""
         if len(given.encode(errors="surrogatepass")) <= MOST_BYTES:
@@ -713,6 +714,12 @@ def _section(title: str, told: List[str]) -> str:
     return f"\n{title}\n" + "".join(f"  {_plain(line)}\n" for line in told) if told else ""
 
 
+def _before_last(said: str, sections: str) -> str:
+    """An explanation with more sections, before its last one: what the verdict says by definition."""
+    last = said.rfind(LAST) if LAST in said else len(said)
+    return said[:last] + sections + said[last:]
+
+
 def _plain(line: str) -> str:
     """A line, with its first sign as in an error where a CI service would take it for a command."""
     command = COMMAND.match(line)
@@ -721,8 +728,8 @@ def _plain(line: str) -> str:
 
 class _End:
     """How a replica ends, as the entries of a trace are read: how many operations of each replica it has, now and at each operation of
-    its own; its changes, as the numbers of these operations and their lines; what came since its last operation; and the last list that
-    it showed."""
+    its own; its changes, as the numbers of these operations and their lines; the last list that it showed, which a
+    view is not; and what came since that."""
 
     def __init__(self, replicas: int) -> None:
         self.has: Tuple[int, ...] = (0,) * replicas
@@ -731,7 +738,8 @@ class _End:
         self.lines: List[int] = []
         self.receipts = 0
         self.at_last = self.has
-        self.since: List[Tuple[int, int, int]] = []  # the receipts since its last operation: author, n and line
+        self.since: List[Tuple[int, int, int]] = []  # the receipts since its last list: author, n and line
+        self.is_viewed = False  # whether a view follows them
         self.shown: Optional[str] = None
 
 
@@ -752,12 +760,14 @@ def _hidden(lines: List[str]) -> List[str]:
             one.receipts += 1
             one.has = _most(one.has, ends[author].pasts[n - 1])
             one.since.append((author, n, line))
+            one.is_viewed = False
             continue
         n = len(one.pasts) + 1
-        one.has = one.at_last = one.has[:replica] + (n,) + one.has[replica + 1:]
+        one.has = one.has[:replica] + (n,) + one.has[replica + 1:]
         one.pasts.append(one.has)
-        one.since = []
-        if kind != "view":
+        one.is_viewed = kind == "view"
+        if not one.is_viewed:
+            one.at_last, one.since = one.has, []
             one.shown = entry.partition(":")[2]
         if kind in ("ins", "del"):
             one.changes.append(n)
@@ -767,7 +777,7 @@ def _hidden(lines: List[str]) -> List[str]:
             before = words[4].count(" ") - 1  # names in the list before it
             if int(words[3]) > before:
                 past_end.append(f"line {line}, {replica}.{n}: replica {replica} inserted {words[2]} at position {words[3]} of a list of "
-                                f"{before}, so at its end: is that the position that was asked for?")
+                                f"length {before}, which counts as its end: is that the position that was asked for?")
         elif kind == "del":
             deletes.append((words[2], f"line {line}, {replica}.{n}: replica {replica} deleted {words[2]}, which no line inserts, so no "
                                       "response shows whether it was deleted: is that its name, and was its insert recorded?"))
@@ -801,7 +811,7 @@ def _different(ends: List[_End]) -> List[str]:
     if len(lists) < 2:
         return [f"by this recording {_joined(never)}. If everything was delivered, {lost}"] if never else []
     differ = f"in the end replicas {_joined(map(str, sorted(sum(lists.values(), []))))} show different lists"
-    same = [f"{_joined(map(str, one))} the same one" for one in lists.values() if len(one) > 1]
+    same = [f"{_joined(map(str, one))} show the same one" for one in lists.values() if len(one) > 1]
     told = differ + (f" ({_joined(same)})" if same else "")
     return [f"{told}: {_joined(never)} by this recording. If everything was delivered, {lost}" if never else told]
 
@@ -834,7 +844,7 @@ def _unheard(ends: List[_End]) -> List[str]:
 
 
 def _unshown(ends: List[_End]) -> List[str]:
-    """Of replicas whose last receipts bring changes, and are followed by nothing that it shows."""
+    """Of replicas whose last receipts bring changes, and are followed by no list that it shows, or by a view alone."""
     told = []
     for replica, one in enumerate(ends):
         has, news = one.at_last, []
@@ -845,7 +855,8 @@ def _unshown(ends: List[_End]) -> List[str]:
                 news.append(f"{author}.{n} (line {line})")
             has = after
         if one.pasts and news:
-            told.append(f"replica {replica} received {_listing(news, len(news))} last, and nothing shows what it made of "
+            but = " but a view" if one.is_viewed else ""
+            told.append(f"replica {replica} received {_listing(news, len(news))} last, and nothing{but} shows what it made of "
                         f"{'that' if len(news) == 1 else 'them'}: let each replica read at the end")
     return told
 
@@ -929,7 +940,7 @@ def _report_in(name: str, printed: bytes) -> Dict[str, Any]:
     except (ValueError, RecursionError):
         report = None
     if not isinstance(report, dict) or not isinstance(report.get("verdict"), str):
-        raise RuntimeError(f"{_escaped(name)} printed what is no report")
+        raise RuntimeError(f"{_escaped(name)} printed something that is no report")
     return report
 
 

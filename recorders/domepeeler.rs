@@ -59,6 +59,7 @@ const UUID_BYTES: usize = 36;
 const HEAD_LINES: usize = 2; // of a trace, before its entries
 const LANGUAGE: &str = "rust"; // by its name for the explainer
 const WARNINGS: &str = "\nWhat this verdict may hide\n"; // a title in the explainer's words
+const LAST: &str = "\nThe list specifications\n"; // that of the last section there
 const ONE_LOG: &str = "one replica's log is no recording: merge the logs first";
 const FAILED_TRACES: &str = "failed_traces"; // the folder of traces that were not accepted in tests
 const MOST_LINKS: usize = 40; // that are followed, one behind the other
@@ -116,7 +117,7 @@ impl Display for Refused {
                 write!(f, "this log is of replica {only} alone, not of {replica}")
             }
             Refused::Name { name } => write!(f, "name \"{}\" is not 1 to 32 of A-Z a-z 0-9 _ - .", escaped(name)),
-            Refused::ShortFor { name, id } => write!(f, "name \"{name}\" stands for the id \"{}\" already", escaped(id)),
+            Refused::ShortFor { name, id } => write!(f, "name \"{name}\" is already used for the id \"{}\"", escaped(id)),
             Refused::NoNumber { id } => {
                 write!(f, "one replica's log can't give the id \"{}\" a short name, ", escaped(id))?;
                 write!(f, "since each machine would give another")
@@ -136,7 +137,7 @@ impl Display for Refused {
                 write!(f, "the clock counts {count} changes of replica {replica}, which has recorded {have}")
             }
             Refused::NoChange { author } => {
-                write!(f, "the clock counts no change of replica {author}, whose update it is")
+                write!(f, "this is an update of replica {author}, but its clock counts no change of replica {author}")
             }
             Refused::Carried { changes, most } => {
                 write!(f, "an update carries 1 to {most} of the changes that its clock counts, not {changes}")
@@ -149,7 +150,7 @@ impl Display for Refused {
                 f.write_str(more)
             }
             Refused::Lists { lists, replicas } => {
-                write!(f, "delivered wants the list of each of the {replicas} replicas, not of {lists}")
+                write!(f, "delivered takes one list for each of the {replicas} replicas, not of {lists}")
             }
             Refused::Others => {
                 write!(f, "one replica's log can't say that everything has arrived: the others are recorded elsewhere")
@@ -166,7 +167,7 @@ impl Display for Refused {
                 write!(f, "replica {replica} has {MOST_INSERTS} inserts, the most that a trace takes")
             }
             Refused::LongResponse { names } => {
-                write!(f, "a response of {names} names, the most that a trace takes is {MOST_NAMES}")
+                write!(f, "a response of {names} names; a trace takes at most {MOST_NAMES}")
             }
             Refused::PlacesFull { replica, places } => {
                 write!(f, "{places} names over the responses of replica {replica}, ")?;
@@ -756,7 +757,9 @@ impl Recording {
         let long = section("Ids that were too long for a name", ids.map(|(name, id)| format!("{name}: {}", escaped(id))));
         let noted = section("Noted", self.notes.iter().cloned());
         let code = section("In your code", self.places_named(&said));
-        Ok(self.with_places(&said) + &code + &long + &noted)
+        let told = self.with_places(&said);
+        let (words, last) = told.split_at(told.rfind(LAST).unwrap_or(told.len()));
+        Ok(words.to_string() + &code + &long + &noted + last)
     }
 
     /// The words, with the place behind each line that stands in brackets in what the verdict may hide.
@@ -1054,14 +1057,16 @@ struct Warned<'a> {
     here: PathBuf,
 }
 
-/// The lines of a replica's changes; whether it has receipts, and which came since its last operation, each as the author, the
-/// operation's number and the line; and the names of the list that it showed last.
+/// The lines of a replica's changes; whether it has receipts; the names of the list that it showed last, which a view is not, and the number of
+/// that operation; which receipts came since, each as the author, the operation's number and the line, and whether a view follows them.
 #[derive(Default)]
 struct Entries<'a> {
     lines: Vec<usize>,
     is_receiving: bool,
     since: Vec<(usize, u32, usize)>,
+    is_viewed: bool,
     shown: Option<&'a str>,
+    last: u32,
 }
 
 impl<'a> Warned<'a> {
@@ -1081,13 +1086,16 @@ impl<'a> Warned<'a> {
             if words[1] == "recv" {
                 own.is_receiving = true;
                 own.since.push((number(words[2]) as usize, number(words[3]), line));
+                own.is_viewed = false;
                 continue;
             }
             operations[replica] += 1;
             let named = format!("line {line}, {replica}.{}: replica {replica}", operations[replica]);
-            own.since.clear();
-            if words[1] != "view" {
+            own.is_viewed = words[1] == "view";
+            if !own.is_viewed {
+                own.since.clear();
                 own.shown = Some(names);
+                own.last = operations[replica];
             }
             match words[1] {
                 "ins" => {
@@ -1096,7 +1104,7 @@ impl<'a> Warned<'a> {
                     let before = names.matches(' ').count() as i64 - 1;
                     if i64::from(number(words[3])) > before {
                         warned.past_end.push(format!(
-                            "{named} inserted {} at position {} of a list of {before}, so at its end: \
+                            "{named} inserted {} at position {} of a list of length {before}, which counts as its end: \
                              is that the position that was asked for?",
                             words[2], words[3]
                         ));
@@ -1170,7 +1178,7 @@ impl<'a> Warned<'a> {
         let mut replicas: Vec<usize> = lists.iter().flat_map(|(_, of)| of).copied().collect();
         replicas.sort_unstable();
         let same: Vec<String> =
-            lists.iter().filter(|(_, of)| of.len() > 1).map(|(_, of)| format!("{} the same one", joined(of))).collect();
+            lists.iter().filter(|(_, of)| of.len() > 1).map(|(_, of)| format!("{} show the same one", joined(of))).collect();
         let same = if same.is_empty() { String::new() } else { format!(" ({})", joined(&same)) };
         let told = format!("in the end replicas {} show different lists{same}", joined(&replicas));
         vec![if count == 0 { told } else { format!("{told}: {never} by this recording. If everything was delivered, {lost}") }]
@@ -1209,12 +1217,16 @@ impl<'a> Warned<'a> {
         told
     }
 
-    /// Of replicas whose last receipts bring changes, and are followed by nothing that they show.
+    /// Of replicas whose last receipts bring changes, and are followed by no list that they show, or by a view alone.
     fn unshown(&self) -> Vec<String> {
         let mut told = Vec::new();
         for (replica, own) in self.recording.replicas.iter().enumerate().filter(|(_, own)| own.operations > 0) {
-            let mut has = own.pasts[own.pasts.len() - 1].to_vec();
-            has[replica] = own.operations;
+            let Entries { last, is_viewed, .. } = self.replicas[replica];
+            let mut has = match last {
+                0 => vec![0; self.replicas.len()],
+                _ => own.pasts[last as usize - 1].to_vec(),
+            };
+            has[replica] = last;
             let mut news = Vec::new();
             for &(author, n, line) in &self.replicas[replica].since {
                 let mut is_new = false;
@@ -1230,8 +1242,9 @@ impl<'a> Warned<'a> {
             }
             if !news.is_empty() {
                 let what = if news.len() == 1 { "that" } else { "them" };
+                let but = if is_viewed { " but a view" } else { "" };
                 told.push(format!(
-                    "replica {replica} received {} last, and nothing shows what it made of {what}: let each replica read at the end",
+                    "replica {replica} received {} last, and nothing{but} shows what it made of {what}: let each replica read at the end",
                     listed(&news)
                 ));
             }

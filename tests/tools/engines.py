@@ -131,12 +131,12 @@ PROSEMIRROR = {
     "three_way_cycle": ("plan 4 causal|0 ins x at 0|3 take 0 : 0.1|1 take 3 : 0.1|2 take 3 : 0.1|1 ins a before x|2 ins b after x|0 del x|"
                         "3 take 0 : 0.2|3 take 2 : 2.1|1 take 3 : 0.2 2.1|end",
                         "refused 3: three responses can't be right together. Any two of them can.|"
-                        "b was put behind x. When it arrived at replica 1 in line 14, x was deleted there by 0.2 (line 10)|"
+                        "b was put behind x. When it arrived at replica 1 in line 14, x was already deleted there by 0.2 (line 10)|"
                         "strong fails, weak holds"),
     "cycle_of_four": ("plan 3 causal|1 ins x at 0|1 ins y after x|2 take 1 : 1.1 1.2|0 take 2 : 1.1 1.2|1 del y|0 del x|0 ins a after y|"
                       "2 take 1 : 1.3|0 take 2 : 1.3|1 ins b before x|2 take 0 : 0.1 0.2|1 take 2 : 0.1 0.2|end",
                       "refused 4: four responses can't be right together. Any three of them can.|"
-                      "a was put behind y. When it arrived at replica 1 in line 13, y was deleted there by 1.3 (line 7)|"
+                      "a was put behind y. When it arrived at replica 1 in line 13, y was already deleted there by 1.3 (line 7)|"
                       "strong fails, weak holds"),
     "lost_text": ("plan 3 causal|0 ins a at 0|0 ins b after a|2 take 0 : 0.1 0.2|1 take 2 : 0.1 0.2|1 ins x before b|0 del a|0 del b|"
                   "2 take 0 : 0.3 0.4|1 take 2 : 0.3 0.4|end",

@@ -61,18 +61,19 @@ def stop(line: int, doing: str, *others: int) -> str:
     before = ", ".join(f"line {other}" for other in others)
     doing += f"; if nothing is wrong there, stop where {'another' if len(others) == 1 else 'others'} arrived ({before})" if others else ""
     asked = f"if recording.lines() == {line - 1}: breakpoint()"
-    where = "where the list is read" if "reads the list" in doing else "where a change begins to be applied, local or remote"
-    return f"|In a debugger|stop before line {line}, where {doing}. In Python, {where}: {asked}"
+    where = "where your code reads the list" if "reads the list" in doing else "where your code begins to apply a change, local or remote"
+    return f"|In a debugger|stop before line {line}, where {doing}. In Python, put this {where}: {asked}"
 
 
+UNSHOWN = "let each replica read at the end"
 # By name: how many replicas, the entries, and lines that stand in the explanation one after the other, from the first.
 WORDS = [
     ("accepted", 2, "0 ins a 0 : a|1 recv 0 1|1 ins b 1 : a b|0 recv 1 1|0 read : a b",
-     "accepted: all 3 responses fit one order of the elements.||The first order that they follow, deleted elements too|a b||"
+     "accepted: all 3 responses fit one order of the elements.||The first order that fits all responses, with deleted elements|a b||"
      "The list specifications|strong and weak hold"),
     ("accepted, nothing", 1, "", "accepted, with a warning: there was no response to judge.||What this verdict may hide|"
-     "nothing was recorded: the trace has no entry, so the verdict says nothing of an editor||The first order that they follow, deleted "
-     "elements too|(there are no elements)||The list specifications|strong and weak hold"),
+     "nothing was recorded: the trace has no entry, so the verdict says nothing of an editor||The first order that fits all responses, "
+     "with deleted elements|(there are no elements)||The list specifications|strong and weak hold"),
     ("two concurrent inserts", 2, "0 ins a 0 : a|1 ins b 0 : b|0 recv 1 1|1 recv 0 1|0 read : a b|1 read : b a",
      "refused 2: two responses can't be right together.|"
      "[a] before [b]: line 7 of the trace, 0.2: replica 0 read the list, answered [a] [b]|"
@@ -86,44 +87,44 @@ WORDS = [
      "[a] before [b]: line 5 of the trace, 1.1: replica 1 inserted b at position 1, answered [a] [b]|"
      "[b] before [a]: line 7, 0.2: replica 0 read the list, answered [b] [a]|"
      "a arrived at replica 1 in line 4, b at replica 0 in line 6|"
-     "Look at where a replica places an incoming insert: 1.1 (line 5) inserted b when it had a, so their order was known already, and still "
-     "it differs. Often the number that orders inserts does not grow when changes arrive, or the neighbour is not found." + stop(6, "replica 0 applies 1.1", 4)),
+     "Look at where a replica places an incoming insert: 1.1 (line 5) inserted b when it had a, so their order was fixed, and yet two "
+     "responses differ in it. Often the number that orders inserts does not grow when changes arrive, or the neighbour is not found." + stop(6, "replica 0 applies 1.1", 4)),
     ("three-way cycle", 3, THREE_WAY,
      "refused 3: three responses can't be right together. Any two of them can.|"
      "[x] before [b]: line 7 of the trace, 2.1: replica 2 inserted b at position 1, answered [x] [b]|"
      "[b] before [a]: line 11, 0.3: replica 0 read the list, answered [b] [a]|"
      "[a] before [x]: line 6, 1.1: replica 1 inserted a at position 0, answered [a] [x]|"
      "x: inserted by 0.1 (line 3), deleted by 0.2 (line 8)|at 0.3 (line 11), x was deleted already, by 0.2 (line 8)|"
-     "a was put before x. When it arrived at replica 0 in line 9, x was deleted there by 0.2 (line 8)|"
-     "b was put behind x. When it arrived at replica 0 in line 10, x was deleted there by 0.2 (line 8)|"
+     "a was put before x. When it arrived at replica 0 in line 9, x was already deleted there by 0.2 (line 8)|"
+     "b was put behind x. When it arrived at replica 0 in line 10, x was already deleted there by 0.2 (line 8)|"
      "x arrived at replica 1 in line 4, x at replica 2 in line 5, a at replica 0 in line 9, b at replica 0 in line 10|"
-     "Look at positions beside deleted elements: any two of 2.1, 0.3 and 1.1 fit together, but an insert beside an element that "
-     "another replica has deleted has perhaps lost its place. The lines above say which elements are deleted for which of them.|"
-     "An editor whose server orders all changes, as Jupiter's does, promises the weak list specification alone, which holds up to here. "
-     "Ask for that with --weak."
+     "Look at positions beside deleted elements: any two of 2.1, 0.3 and 1.1 fit together, but perhaps an insert lost its place "
+     "because its neighbour was deleted elsewhere. The lines above say which elements each response no longer has.|"
+     "An editor whose server orders all changes, as Jupiter's does, promises only the weak list specification, and up to this line that "
+     "holds. To ask for that only, use --weak."
      + stop(10, "replica 0 applies 2.1", 9, 5, 4)),
     ("an insert that arrives beside a deleted element", 2, BESIDE_DELETED,
      "[d] before [c]: line 9 of the trace, 0.3: replica 0 inserted d at position 1, answered b [d] [c]|"
      "[c] before [d]: line 11, 1.3: replica 1 read the list, answered [c] [d]|"
      "d: inserted by 0.3 (line 9)|c: inserted by 1.1 (line 5)|"
-     "d was put behind b. When it arrived at replica 1 in line 10, b was deleted there by 1.2 (line 8)|"
+     "d was put behind b. When it arrived at replica 1 in line 10, b was already deleted there by 1.2 (line 8)|"
      "c arrived at replica 0 in line 6, d at replica 1 in line 10||Where to look|"
-     "Look at inserts beside deleted elements, if replicas throw these away: the lines above name one that arrived where its neighbour "
-     "was deleted. Without its neighbour its place is lost.|"
-     "Look at where a replica places an incoming insert: 0.3 (line 9) inserted d when it had c, so their order was known already, and "
-     "still it differs. Often the number that orders inserts does not grow when changes arrive, or the neighbour is not found. In an editor "
-     "that sends positions, that of d was perhaps not adjusted for the delete 1.2 (line 8) of b, which replica 1 had and its author did not." + stop(10, "replica 1 applies 0.3", 6)),
+     "Look at inserts beside deleted elements, if your replicas throw deleted elements away: the lines above name an insert that arrived after its "
+     "neighbour was deleted there. Without that neighbour nothing says where the insert belongs.|"
+     "Look at where a replica places an incoming insert: 0.3 (line 9) inserted d when it had c, so their order was fixed, and yet two "
+     "responses differ in it. Often the number that orders inserts does not grow when changes arrive, or the neighbour is not found. In an editor "
+     "that sends positions, the position of d was perhaps not adjusted for the delete 1.2 (line 8) of b, which replica 1 had and the author of d had not." + stop(10, "replica 1 applies 0.3", 6)),
     ("an insert between two that are deleted by others", 3, "0 ins a 0 : a|0 ins b 1 : a b|1 recv 0 2|2 recv 0 2|2 ins c 1 : a c b|1 del a : b|"
      "0 del b : a|1 recv 0 3|1 read :|1 ins d 0 : d|1 recv 2 1|1 read : c d|2 recv 1 3|2 read : d c",
      "[d] before [c]: line 16 of the trace, 2.2: replica 2 read the list, answered [d] [c]|"
      "[c] before [d]: line 14, 1.4: replica 1 read the list, answered [c] [d]|"
-     "c was put behind a and before b. When it arrived at replica 1 in line 13, a was deleted there by 1.1 (line 8) and b was deleted there by 0.3 "
+     "c was put behind a and before b. When it arrived at replica 1 in line 13, a was already deleted there by 1.1 (line 8) and b was already deleted there by 0.3 "
      "(line 9)|c arrived at replica 1 in line 13, d at replica 2 in line 15"),
     ("a session that goes on", 2, f"{BESIDE_DELETED}|0 recv 1 2|0 read : d c|1 read : c d",
      "When it went wrong|line 11 of the trace, 1.3: replica 1 read the list: up to line 10 the session is accepted; line 11 makes it `refused 2`|"
      "before it: 1.2 (line 8) still fits; since then replica 1 received 0.3 (line 10)|"
      "in the end replicas 0 and 1 have every change and show different lists, though perhaps the same text||"
-     "What they show, each element before the next, and round again|"
+     "What they show: each element before the next, in a circle|"
      "[d] before [c]: line 9, 0.3: replica 0 inserted d at position 1, answered b [d] [c]|"
      "[c] before [d]: line 11, 1.3: replica 1 read the list, answered [c] [d]||The elements|"
      "c arrived at replica 0 in line 6, d at replica 1 in line 10||"
@@ -138,29 +139,29 @@ WORDS = [
      "`refused 3`|"
      "before it: 0.2 (line 8) still fits; since then replica 0 received 1.1 (line 9), 2.1 (line 10)|"
      "in the end replicas 0 and 1 have every change and show different lists, though perhaps the same text||"
-     "What they show, each element before the next, and round again|"
+     "What they show: each element before the next, in a circle|"
      "[x] before [b]: line 7, 2.1: replica 2 inserted b at position 1, answered [x] [b]|"
      "[b] before [a]: line 11, 0.3: replica 0 read the list, answered [b] [a]|"
      "[a] before [x]: line 6, 1.1: replica 1 inserted a at position 0, answered [a] [x]||The elements|"
      "x: inserted by 0.1 (line 3), deleted by 0.2 (line 8)|at 0.3 (line 11), x was deleted already, by 0.2 (line 8)|"
      "x arrived at replica 1 in line 4, x at replica 2 in line 5, a at replica 0 in line 9, b at replica 0 in line 10||"
      "Where to look|"
-     "Of the whole trace: Look at inserts beside deleted elements, if replicas throw these away: the lines above name one that arrived where "
-     "its neighbour was deleted. Without its neighbour its place is lost.|"
+     "Of the whole trace: Look at inserts beside deleted elements, if your replicas throw deleted elements away: the lines above name an insert that arrived "
+     "after its neighbour was deleted there. Without that neighbour nothing says where the insert belongs.|"
      "Of the whole trace: Look at the order of concurrent inserts: a and b were inserted without knowing of each other, and were shown in two "
      "different orders. Use a rule that gives the same order everywhere (by the replicas' numbers, say), and not the order in which they "
-     "arrive. In an editor that sends positions, that of b was perhaps not adjusted for the delete 0.2 (line 8) of x, which replica 1 had and "
-     "its author did not; or that of the delete was not adjusted for an insert.|"
-     "Look at positions beside deleted elements: any two of 2.1, 0.3 and 1.1 fit together, but an insert beside an element that "
-     "another replica has deleted has perhaps lost its place. The lines above say which elements are deleted for which of them.|"
-     "An editor whose server orders all changes, as Jupiter's does, promises the weak list specification alone, which holds up to here. "
-     "Ask for that with --weak."
-     + stop(10, "replica 0 applies 2.1", 9, 5, 4) + "||What the whole trace shows, each element before the next, and round again|"
+     "arrive. In an editor that sends positions, the position of b was perhaps not adjusted for the delete 0.2 (line 8) of x, which replica 1 "
+     "had and the author of b had not; or the position of the delete was not adjusted for an insert.|"
+     "Look at positions beside deleted elements: any two of 2.1, 0.3 and 1.1 fit together, but perhaps an insert lost its place "
+     "because its neighbour was deleted elsewhere. The lines above say which elements each response no longer has.|"
+     "An editor whose server orders all changes, as Jupiter's does, promises only the weak list specification, and up to this line that "
+     "holds. To ask for that only, use --weak."
+     + stop(10, "replica 0 applies 2.1", 9, 5, 4) + "||What the whole trace shows: each element before the next, in a circle|"
      "[a] before [b]: line 14, 1.2: replica 1 read the list, answered [a] [b]|"
      "[b] before [a]: line 11, 0.3: replica 0 read the list, answered [b] [a]"),
     ("a neighbour that its replica deleted before another's delete arrived", 2, "0 ins x 0 : x|1 recv 0 1|1 ins b 1 : x b|1 del x : b|"
      "0 ins a 0 : a x|0 del x : a|0 recv 1 1|0 recv 1 2|0 read : b a|0 read : a b",
-     "b was put behind x. When it arrived at replica 0 in line 9, x was deleted there by 0.3 (line 8)"),
+     "b was put behind x. When it arrived at replica 0 in line 9, x was already deleted there by 0.3 (line 8)"),
     ("an element beside one that is deleted later", 2, "0 ins a 0 : a|0 ins b 1 : a b|0 ins c 2 : a b c|1 recv 0 3|1 read : a b c|1 del b : a c|"
      "1 read : c a",
      "[a] before [c]: line 5 of the trace, 0.3: replica 0 inserted c at position 2, answered [a] b [c]|"
@@ -175,8 +176,8 @@ WORDS = [
      "[b] before [c]: line 9, 1.2: replica 1 read the list, answered [b] [c]|"
      "[c] before [a]: line 11, 2.2: replica 2 read the list, answered [c] [a]|"
      "b arrived at replica 0 in line 6, c at replica 1 in line 8, a at replica 2 in line 10|"
-     "Look at how a replica orders elements when it has only some of them: any two of 0.2, 1.2 and 2.2 fit together, and none of the elements "
-     "is deleted for any of them, so each replica still lacks some. Often the rule that orders concurrent inserts is not the same everywhere."
+     "Look at how a replica orders elements when it has only some of them: any two of 0.2, 1.2 and 2.2 fit together. None of them leaves out "
+     "an element because it was deleted, so each replica had not received some yet. Often the rule that orders concurrent inserts is not the same everywhere."
      + stop(10, "replica 2 applies 0.1", 8, 6)),
     ("an element that came along with what had seen it", 3, "0 ins a 0 : a|1 recv 0 1|1 read : a|1 ins b 1 : a b|2 recv 1 1|2 recv 1 2|"
      "2 recv 0 1|2 read : b a",
@@ -196,7 +197,7 @@ WORDS = [
      "(2 recv 1 1)|[a] it has no receipt of its own at replica 2, and counts as arrived with 1.1 (line 5), whose author had it. If "
      "each operation travels by itself, it had not arrived: that order is not causal|[a] no operation deletes it||Where to look|"
      "Look first at whether 0.1 was lost on its way to replica 2: no receipt there names it. If it was overtaken, look at the order in which "
-     "operations arrive. Apply an operation only after everything that its author had, or send both together. If the editor itself holds it "
+     "operations arrive. Apply an operation only after everything that its author had seen, or send both together. If the editor itself holds it "
      f"back, write its receipt only when it is applied. {GUIDE} has both ways."),
     ("an element lost that arrived after what had seen it", 3,
      "0 ins a 0 : a|1 recv 0 1|1 ins b 1 : a b|2 recv 1 1|2 recv 0 1|2 read : b",
@@ -225,7 +226,7 @@ WORDS = [
      "0 del b : a|1 recv 0 3|1 read : b",
      "contents 1.4: this response has one element that should not be there.|answered: [b]|it should hold, in any order: (nothing)|Extra|"
      "[b] inserted by 0.2 (line 6), arrived at replica 1 in line 8 (1 recv 0 2)|"
-     "[b] was put behind a. When it arrived at replica 1 in line 8, a was deleted there by 1.2 (line 7)|"
+     "[b] was put behind a. When it arrived at replica 1 in line 8, a was already deleted there by 1.2 (line 7)|"
      "[b] deleted by 0.3 (line 10), arrived at replica 1 in line 11 (1 recv 0 3)"),
     ("an element shown that never arrived", 2, "0 ins a 0 : a|1 read : a",
      "Extra|[a] inserted by 0.1 (line 3), and replica 1 has no receipt of it"),
@@ -252,7 +253,8 @@ WORDS = [
      "[a] before [c]: line 5 of the trace, 0.3: replica 0 inserted c at position 2, answered [a] b [c]|"
      "[c] before [a]: line 7, 1.1: replica 1 showed a part of the list, answered [c] [a]"),
     ("accepted, with a view", 2, "0 ins a 0 : a|0 ins b 1 : a b|1 recv 0 2|1 view : b",
-     "accepted: all 3 responses fit one order of the elements.||The first order that they follow, deleted elements too|a b"),
+     "accepted, with a warning: all 3 responses fit one order of the elements.||What this verdict may hide|replica 1 received 0.2 (line 5) last, "
+     f"and nothing but a view shows what it made of that: {UNSHOWN}||The first order that fits all responses, with deleted elements|a b"),
     ("past the end, elsewhere", 1, "0 ins a 0 : a|0 ins b 4294967295 : b a",
      "position 0.2: b does not stand where it was asked for.|"
      "line 4 of the trace, 0.2: replica 0 inserted b at position 4294967295|answered: [b] [a]|"
@@ -267,7 +269,7 @@ WORDS = [
      "position 1.1: c does not stand where it was asked for.|asked for: position 0, where [b] stands|found at: position 1||"
      "Where to look|"
      "Look at the numbers that order inserts at one place, if the editor has such (a clock, ids): c stands behind b, which replica 1 had "
-     "already. Perhaps the number of c is not greater than that of b, as it must be. Usual causes: the clock does not advance when changes arrive; ids "
+     "already. The number of c must be greater than that of b; perhaps it is not. Usual causes: the clock does not advance when changes arrive; ids "
      'are compared as text, so "10" comes before "9".|If the editor has no such numbers: look at how the position that a user sees is mapped to a place '
      "in the editor's own list; and at whether the recorder writes the position that was asked for." + stop(6, "replica 1 inserts c")),
     ("a position before the one that was asked for, beside a deleted element", 1, "0 ins a 0 : a|0 ins b 1 : a b|0 del a : b|0 ins c 1 : c b",
@@ -281,19 +283,19 @@ WORDS = [
      "Missing|[b] inserted by 0.2 (line 4), arrived at replica 1 in line 5 (1 recv 0 2)|"
      "[b] was put behind a, which was not deleted there when it arrived (line 5)|[b] no operation deletes it||"
      "Where to look|"
-     "0.3 (line 7) deletes a, already deleted here by 1.2 (line 8): look at what the editor does with a delete whose element is gone. It may "
+     "0.3 (line 7) deletes a, already deleted at replica 1 by 1.2 (line 8): look at what the editor does with a delete whose element is gone. It may "
      "have deleted b instead." + stop(9, "replica 1 applies 0.3")),
     ("a delete of one's own after another's", 2, "0 ins a 0 : a|0 ins b 1 : a b|1 recv 0 2|1 del a : b|0 recv 1 1|0 del a :",
      "contents 0.3: this response lacks one element that replica 0 had by then.|"
-     "0.3 (line 8) deletes a, already deleted here by 1.1 (line 6): look at what the editor does with a delete whose element is gone. It may "
+     "0.3 (line 8) deletes a, already deleted at replica 0 by 1.1 (line 6): look at what the editor does with a delete whose element is gone. It may "
      "have deleted b instead." + stop(7, "replica 0 applies 1.1")),
     ("an element lost whose neighbour was deleted where it arrived", 2, "0 ins a 0 : a|0 ins b 1 : a b|1 recv 0 2|1 read : a b|0 ins c 1 : a c b|1 del a : b|"
      "1 recv 0 3|1 read : b",
      "contents 1.3: this response lacks one element that replica 1 had by then.|Missing|"
      "[c] inserted by 0.3 (line 7), arrived at replica 1 in line 9 (1 recv 0 3)|"
-     "[c] was put behind a and before b. When it arrived at replica 1 in line 9, a was deleted there by 1.2 (line 8)|[c] no operation deletes it||"
+     "[c] was put behind a and before b. When it arrived at replica 1 in line 9, a was already deleted there by 1.2 (line 8)|[c] no operation deletes it||"
      "Where to look|"
-     "Look at inserts beside deleted elements: c arrived where its neighbour was deleted, as told above. An editor that throws deleted elements "
+     "Look at inserts beside deleted elements: when c arrived, its neighbour was already deleted there, as told above. An editor that throws deleted elements "
      "away too early finds no place for it, and loses it or holds it back for ever." + stop(9, "replica 1 applies 0.3")),
     ("an element lost beside two that are there", 2, "0 ins a 0 : a|0 ins b 1 : a b|0 ins c 1 : a c b|1 recv 0 3|1 read : a b",
      "[c] was put behind a and before b, which were not deleted there when it arrived (line 6)"),
@@ -303,39 +305,39 @@ WORDS = [
      "[b] inserted by 0.2 (line 4), arrived at replica 1 in line 7 (1 recv 0 3)|"
      "[b] 0.2's own receipt comes only in line 9 (1 recv 0 2). 0.3 overtook it in line 7: that order is not causal|[b] no operation deletes it|"
      "Look at the order in which operations arrive: 0.2 was overtaken, as told above. Apply an operation only after everything that its "
-     f"author had, or send both together. If the editor itself holds it back, write its receipt only when it is applied. {GUIDE} has both ways."
+     f"author had seen, or send both together. If the editor itself holds it back, write its receipt only when it is applied. {GUIDE} has both ways."
      + stop(7, "replica 1 applies 0.3")),
     ("a change without a receipt, as each other of its author has one", 2, "0 ins a 0 : a|0 ins b 1 : a b|0 ins c 2 : a b c|0 ins d 3 : a b c d|1 recv 0 1|"
      "1 read : a|1 recv 0 3|1 read : a c|1 recv 0 4|1 read : a c d",
      "[b] 0.2 has no receipt of its own at replica 1, though each other change of replica 0 has one. It was lost, or 0.3 overtook it in line 9"),
     ("one receipt for several changes of an author", 2, "0 ins a 0 : a|0 ins b 1 : a b|0 ins c 2 : a b c|1 recv 0 3|1 read : a c",
      "[b] inserted by 0.2 (line 4), arrived at replica 1 in line 6 (1 recv 0 3)|"
-     "[b] was put behind a, which was not deleted there when it arrived (line 6)|[b] no operation deletes it||Where to look|"
-     "It looks as if 0.2 (line 4) was not applied at replica 1: lost, or held back, or `received` is called before the change is applied.|"
-     "No receipt at replica 1 names 0.2 (line 4), which arrived with 0.3 (line 5). If each of your changes has a receipt of its own, "
+     "[b] was put behind a, which was not deleted there when it arrived (line 6)|[b] no operation deletes it||Where to "
+     "look|It looks as if 0.2 (line 4) was not applied at replica 1: lost, or held back, or `received` is called before the change is applied.|No "
+     "receipt at replica 1 names 0.2 (line 4): the recording counts it as arrived with 0.3 (line 5). If each of your changes has a receipt of its own, "
      "0.3 (line 5) overtook it, or it was lost."),
     ("a change that is lost before others of a server's order", 3, "0 ins a 0 : a|0 ins b 0 : b a|1 recv 0 1|1 read : a|1 ins c 1 : a c|2 recv 0 1|"
      "2 ins y 1 : a y|0 recv 2 1|0 recv 1 2|0 read : b a y c|1 recv 2 1|1 read : a c y|0 ins d 4 : b a y c d|0 ins e 5 : b a y c d e|1 recv 0 4|"
      "1 read : a c y d|1 recv 0 5|1 read : a c y d e",
      "Look first at whether 0.2 (line 4) was lost on its way to replica 1, or overtaken: no receipt there names it, though each other change of "
-     "replica 0 has one. Where positions are sent, what comes later is then misplaced.|"
+     "replica 0 has one. In an editor that sends positions, later changes then land in the wrong place.|"
      "Look at the order of concurrent inserts: c and y were inserted without knowing of each other, and were shown in two different orders. Use a "
      "rule that gives the same order everywhere (by the replicas' numbers, say), and not the order in which they arrive."),
     ("a delete that meets an insert and a delete which did not know each other", 2, "0 ins a 0 : a|0 ins b 1 : a b|0 ins c 2 : a b c|1 recv 0 3|"
      "1 read : a b c|0 del a : b c|1 ins d 3 : a b c d|0 recv 1 2|0 read : b c d|1 del c : a b d|0 recv 1 3|0 read : b c",
      "It looks as if 1.3 (line 12) deleted d instead of c: look at how a delete finds its element where it is applied, and at whether the recorder "
-     "names the element that was deleted. In an editor that sends positions, its position was perhaps not adjusted for the delete 0.4 (line 8) of "
-     "a, which its author had not seen; or an earlier insert was not adjusted for a delete." + stop(13, "replica 0 applies 1.3")),
+     "names the element that was deleted. In an editor that sends positions, the position of 1.3 was perhaps not adjusted for the delete 0.4 (line 8) "
+     "of a, which the author of 1.3 had not seen; or an earlier insert was not adjusted for a delete." + stop(13, "replica 0 applies 1.3")),
     ("a delete that takes what is deleted later", 2, "0 ins a 0 : a|0 ins b 1 : a b|1 recv 0 2|1 read : a b|1 del a : b|0 ins c 0 : c a b|0 recv 1 2|"
      "0 read : a b|0 del c : a b",
      "It looks as if 1.2 (line 7) deleted c instead of a: look at how a delete finds its element where it is applied, and at whether the recorder "
-     "names the element that was deleted. In an editor that sends positions, its position was perhaps not adjusted for the insert 0.3 (line 8) of "
-     "c, which its author had not seen." + stop(9, "replica 0 applies 1.2")),
+     "names the element that was deleted. In an editor that sends positions, the position of 1.2 was perhaps not adjusted for the insert 0.3 (line 8) "
+     "of c, which the author of 1.2 had not seen." + stop(9, "replica 0 applies 1.2")),
     ("an insert that another one at its place has shifted", 2, "0 ins b 0 : b|0 ins c 0 : c b|1 ins a 0 : a|1 recv 0 1|1 read : a b|1 recv 0 2|"
      "1 read : a b c",
-     "Look at where a replica places an incoming insert: 0.2 (line 4) inserted c when it had b, so their order was known already, and still it "
-     "differs. Often the number that orders inserts does not grow when changes arrive, or the neighbour is not found. a was inserted at the place "
-     "of c, neither author knowing of the other: look also at which comes first there." + stop(8, "replica 1 applies 0.2", 6)),
+     "Look at where a replica places an incoming insert: 0.2 (line 4) inserted c when it had b, so their order was fixed, and yet two responses "
+     "differ in it. Often the number that orders inserts does not grow when changes arrive, or the neighbour is not found. a was inserted at the same "
+     "place as c, and neither author had seen the other's insert. Look also at which comes first there." + stop(8, "replica 1 applies 0.2", 6)),
     ("a receipt that comes before the change is applied", 2, "0 ins a 0 : a|1 recv 0 1|1 read : a|0 ins b 1 : a b|0 del a : b|1 recv 0 3|1 read : a",
      "contents 1.2: this response lacks one element that replica 1 had by then and has one element that should not be there.||"
      "Where to look|"
@@ -349,34 +351,35 @@ WORDS = [
     ("an element lost that was there before, beside one that came", 2, "0 ins a 0 : a|1 recv 0 1|1 read : a|0 ins b 1 : a b|1 recv 0 2|1 read : b",
      "Missing|[a] no operation deletes it||Where to look|"
      "Look at the recorder first: `received` must be called right after the change is applied. Then at the transport: no change may arrive before "
-     f"those that its author had. Then at the editor: does it lose a change, apply it twice, or apply it to another element? {GUIDE} says where the calls "
+     f"those that its author had seen. Then at the editor: does it lose a change, apply it twice, or apply it to another element? {GUIDE} says where the calls "
      "go." + stop(7, "replica 1 applies 0.2")),
     ("a wrong response before the one that the program names", 2, "1 ins a 0 : a|1 read :|0 recv 1 1|0 read : a|0 read :|1 read : a",
      "contents 1.2: this response lacks one element that replica 1 had by then. Of the whole trace the program says `contents 0.2`.||When it went wrong|"
      "line 4 of the trace, 1.2: replica 1 read the list: up to line 3 the session is accepted; line 4 makes it `contents 1.2`|"
      "the first 4 lines are enough to show it (`head -4`)||The response|line 4 of the trace, 1.2: replica 1 read the list|answered: (nothing)|"
      "[a] inserted by 1.1 (line 3), an earlier operation of replica 1" + stop(4, "replica 1 reads the list")
-     + "||What the program names of the whole trace|line 7, 0.2: replica 0 read the list, answered (nothing)||The list specifications|"
+     + "||What the program names in the whole trace|line 7, 0.2: replica 0 read the list, answered (nothing)||The list specifications|"
      "strong and weak fail"),
     ("a delete that meets an insert which did not know it", 2, "0 ins a 0 : a|0 ins b 1 : a b|0 ins c 2 : a b c|1 recv 0 3|1 read : a b c|1 del a : b c|"
      "0 ins d 2 : a b d c|1 recv 0 4|1 read : b c d",
-     "Look at where a replica places an incoming insert: 0.4 (line 9) inserted d when it had c, so their order was known already, and "
-     "still it differs. Often the number that orders inserts does not grow when changes arrive, or the neighbour is not found. In an editor "
-     "that sends positions, that of d was perhaps not adjusted for the delete 1.2 (line 8) of a, which replica 1 had and its author did not." + stop(10, "replica 1 applies 0.4", 6)),
+     "Look at where a replica places an incoming insert: 0.4 (line 9) inserted d when it had c, so their order was fixed, and yet two "
+     "responses differ in it. Often the number that orders inserts does not grow when changes arrive, or the neighbour is not found. In an editor "
+     "that sends positions, the position of d was perhaps not adjusted for the delete 1.2 (line 8) of a, which replica 1 had and the author of d had not." + stop(10, "replica 1 applies 0.4", 6)),
     ("a delete that becomes nothing beside an insert that its author did not know", 2, "0 ins a 0 : a|1 recv 0 1|1 read : a|0 del a :|"
      "1 ins b 0 : b a|1 recv 0 2|1 read : b a",
      "It looks as if 0.2 (line 6) was not applied at replica 1: lost, or held back, or `received` is called before the change is applied. "
-     "In an editor that sends positions, its position was perhaps not adjusted for the insert 1.2 (line 7) of b, which its author had not seen."),
+     "In an editor that sends positions, the position of 0.2 was perhaps not adjusted for the insert 1.2 (line 7) of b, which the author of 0.2 "
+     "had not seen."),
     ("a delete of one of two that were inserted at one place", 2, "0 ins a 0 : a|0 del a :|1 ins b 0 : b|1 recv 0 1|1 read : a b|1 recv 0 2|1 read : a",
      "It looks as if 0.2 (line 4) deleted b instead of a: look at how a delete finds its element where it is applied, and at whether the recorder "
-     "names the element that was deleted. In an editor that sends positions, its position was perhaps not adjusted for the insert 1.1 (line 5) of "
-     "b, which its author had not seen. b was inserted at the place of a, neither author knowing of the other: look also at which comes first there."),
+     "names the element that was deleted. In an editor that sends positions, the position of 0.2 was perhaps not adjusted for the insert 1.1 (line 5) "
+     "of b, which the author of 0.2 had not seen. b was inserted at the same place as a, and neither author had seen the other's insert. Look also at which comes first there."),
     ("doubled", 2, "0 ins a 0 : a|0 ins b 1 : a b|1 ins b 0 : b",
      "doubled: 0.2 and 1.1 insert the same name, b. An element is known by its name, so nothing else was judged.|"
      "line 4 of the trace, 0.2: replica 0 inserted b at position 1|line 5, 1.1: replica 1 inserted b at position 0||"
      "Where to look|"
      "Look at the recorder first: each inserted element needs a name of its own, for ever. Equal letters are different elements, each element "
-     "of a paste is a new one, and so is an undone delete where the editor makes a new one.||The list specifications|"
+     "of a paste is a new one, and so is an element that undo brings back, where the editor makes a new one.||The list specifications|"
      "neither the strong nor the weak one was judged: both know an element by its name"),
 ]
 
@@ -387,7 +390,7 @@ FAILS_WEAK = [
     # Where strong failed before, the session went wrong where weak fails.
     ("opposite orders after the cycle", f"{THREE_WAY}|1 recv 0 2|1 recv 2 1|1 read : a b|2 recv 0 2|2 recv 1 1|2 read : a b", "refused 2: ", [
         "When it went wrong", "line 14 of the trace, 1.2: replica 1 read the list: up to line 13 weak holds; line 14 makes it `refused 2`",
-        "before it: 1.1 (line 6) agrees with each other response by then; since then replica 1 received 0.2 (line 12), 2.1 (line 13)",
+        "before it: 1.1 (line 6) agrees with all responses up to then; since then replica 1 received 0.2 (line 12), 2.1 (line 13)",
         "[a] before [b]: line 14, 1.2: replica 1 read the list, answered [a] [b]",
         "[b] before [a]: line 11, 0.3: replica 0 read the list, answered [b] [a]", "strong and weak fail"]),
     ("a lost element after the cycle", f"{THREE_WAY}|1 recv 0 2|1 recv 2 1|1 read : b|0 read : b", "contents 1.2: ", [
@@ -519,9 +522,9 @@ PLANTED = {
     "tie": (100, 50, ["order of concurrent inserts", "rule that orders concurrent inserts", "where a replica places an incoming insert"]),
     "clock": (300, 20, ["numbers that order inserts", "number that orders inserts"]),
     "mapping": (150, 40, ["perhaps not adjusted for the delete", "perhaps not adjusted for the insert"]),
-    "unmoved": (80, 40, ["its position was perhaps not adjusted for", "not adjusted for an insert", "not adjusted for inserts"]),
-    "behind": (80, 40, ["order of concurrent inserts", "neither author knowing of the other"]),
-    "twice": (500, 10, ["already deleted here by"]),
+    "unmoved": (80, 40, [" was perhaps not adjusted for", "not adjusted for an insert", "not adjusted for inserts"]),
+    "behind": (80, 40, ["order of concurrent inserts", "neither author had seen the other's insert"]),
+    "twice": (500, 10, ["already deleted at replica"]),
     "overtaking": (100, 50, ["overtook it in line"]),
     "none": (60, 0, []),
     "none_behind_server": (60, 0, []),
@@ -534,8 +537,7 @@ NO_INSERT = ", which no line inserts, so no response shows whether it was delete
 UNHEARD = ("no receipt brings it an insert or a delete from there, so nothing shows what it makes of these. At the end of a session let "
            "everyone receive everything, and read")
 IT, THEY = "If everything was delivered, it was lost or is still held back", "If everything was delivered, they were lost or are still held back"
-UNSHOWN = "let each replica read at the end"
-PAST_END = "so at its end: is that the position that was asked for?"
+PAST_END = "which counts as its end: is that the position that was asked for?"
 # By name: how many replicas, the entries of an accepted recording, and what is warned of, a line each.
 WARNED = [
     ("nothing recorded", 3, "", "nothing was recorded: the trace has no entry, so the verdict says nothing of an editor"),
@@ -548,13 +550,13 @@ WARNED = [
      "|".join(f"line {i + 4}, 0.{i + 1}: replica 0 deleted a{i}{NO_INSERT}" for i in range(5))
      + "|and 2 more deletes of what no line inserts"),
     ("an insert past the end", 1, "0 ins a 0 : a|0 ins b 2 : a b|0 ins c 2 : a b c|0 ins d 4294967295 : a b c d",
-     f"line 4, 0.2: replica 0 inserted b at position 2 of a list of 1, {PAST_END}|"
-     f"line 6, 0.4: replica 0 inserted d at position 4294967295 of a list of 3, {PAST_END}"),
+     f"line 4, 0.2: replica 0 inserted b at position 2 of a list of length 1, {PAST_END}|"
+     f"line 6, 0.4: replica 0 inserted d at position 4294967295 of a list of length 3, {PAST_END}"),
     ("two that never hear of one another", 2, "0 ins a 0 : a|1 ins b 0 : b|0 read : a|1 read : b",
      f"in the end replicas 0 and 1 show different lists|replica 0 never hears of replica 1: {UNHEARD}|replica 1 never hears of replica 0: {UNHEARD}"),
     ("one that never hears of three others", 4, "0 ins a 0 : a|1 del a :|1 recv 0 1|2 ins c 0 : c|2 recv 1 1|2 recv 0 1|0 recv 2 1|"
      "0 recv 1 1|1 recv 2 1|3 read :",
-     f"in the end replicas 0, 1, 2 and 3 show different lists (1 and 3 the same one)|replica 3 never hears of replicas 0, 1 and 2: {UNHEARD}|"
+     f"in the end replicas 0, 1, 2 and 3 show different lists (1 and 3 show the same one)|replica 3 never hears of replicas 0, 1 and 2: {UNHEARD}|"
      f"replica 0 received 2.1 (line 9) and 1.1 (line 10) last, and nothing shows what it made of them: {UNSHOWN}|"
      f"replica 1 received 0.1 (line 5) and 2.1 (line 11) last, and nothing shows what it made of them: {UNSHOWN}|"
      f"replica 2 received 1.1 (line 7) and 0.1 (line 8) last, and nothing shows what it made of them: {UNSHOWN}"),
@@ -564,7 +566,12 @@ WARNED = [
      "0 read : b a|1 read : b a", ""),
     ("one that hears at the end", 2, "0 ins a 0 : a|1 read :|1 recv 0 1", "in the end replicas 0 and 1 show different lists|"
      f"replica 1 received 0.1 (line 5) last, and nothing shows what it made of that: {UNSHOWN}"),
-    ("one that hears at the end, and shows a part", 2, "0 ins a 0 : a|1 recv 0 1|1 view :", ""),
+    ("one that hears at the end, and shows a part", 2, "0 ins a 0 : a|1 recv 0 1|1 view :",
+     f"replica 1 received 0.1 (line 4) last, and nothing but a view shows what it made of that: {UNSHOWN}"),
+    ("a receipt before a view and one behind it", 2, "0 ins a 0 : a|1 read :|1 recv 0 1|1 view : a|0 ins b 0 : b a|1 recv 0 2",
+     "in the end replicas 0 and 1 show different lists|replica 1 received 0.1 (line 5) and 0.2 (line 8) last, and nothing shows what it made of "
+     f"them: {UNSHOWN}"),
+    ("a list between a receipt and a view", 2, "0 ins a 0 : a|1 recv 0 1|1 read : a|1 view : a", ""),
     ("one that reads is not heard of", 2, "0 ins a 0 : a|1 recv 0 1|1 read : a", ""),
     ("a delete before its insert", 2, "0 ins a 0 : a|1 del a :|1 recv 0 1|1 read :|0 recv 1 1|0 read :", ""),
     ("an insert that never arrives", 2, "0 ins a 0 : a|1 recv 0 1|1 read : a|0 ins b 1 : a b|1 read : a",
@@ -630,26 +637,26 @@ Extra
 [a] deleted by 0.3 (line 7), arrived at replica 1 in line 10 (1 recv 0 3), which `delivered` wrote
 
 Where to look
-Line 10 was written by `delivered`: before it nothing shows that 0.2 (line 6) was applied at replica 1. It was lost, or is held back for ever; \
+Only `delivered` (line 10) says that 0.2 (line 6) arrived at replica 1; no response before shows it. It was lost, or is held back for ever; \
 0.3 (line 7), which came later, perhaps waits for it. Look at what keeps changes waiting.
 
 In a debugger
-stop before line 6, where replica 0 inserts b, and follow that to replica 1. In Python, where a change begins to be applied, local or remote: \
+stop before line 6, where replica 0 inserts b, and follow that to replica 1. In Python, put this where your code begins to apply a change, local or remote: \
 if recording.lines() == 5: breakpoint()
 
 The list specifications
 """
 STATEMENTS = [
-    ("", "In Python, {}: if recording.lines() == 6: breakpoint()"),
-    ("language python\n", "In Python, {}: if recording.lines() == 6: breakpoint()"),
-    ("language javascript\n", "In JavaScript, {}: if (recording.lines() === 6) debugger"),
-    ("language rust\n", 'In Rust, {}: if recording.lines() == 6 {{ eprintln!("here") }}, with a breakpoint on it'),
-    ("language c\n", "In C, {}: if (domepeeler_lines(recording) == 6) raise(SIGTRAP);"),
-    ("language emacs-lisp\n", "In Emacs Lisp, {}: (when (= (domepeeler-lines recording) 6) (debug))"),
-    ("language cobol\n", "In Python, {}: if recording.lines() == 6: breakpoint()"),
-    ("language rust\nlanguage c\n", 'In Rust, {}: if recording.lines() == 6 {{ eprintln!("here") }}, with a breakpoint on it'),
+    ("", "In Python, put this {}: if recording.lines() == 6: breakpoint()"),
+    ("language python\n", "In Python, put this {}: if recording.lines() == 6: breakpoint()"),
+    ("language javascript\n", "In JavaScript, put this {}: if (recording.lines() === 6) debugger"),
+    ("language rust\n", 'In Rust, put this {}: if recording.lines() == 6 {{ eprintln!("here") }}, with a breakpoint on it'),
+    ("language c\n", "In C, put this {}: if (domepeeler_lines(recording) == 6) raise(SIGTRAP);"),
+    ("language emacs-lisp\n", "In Emacs Lisp, put this {}: (when (= (domepeeler-lines recording) 6) (debug))"),
+    ("language cobol\n", "In Python, put this {}: if recording.lines() == 6: breakpoint()"),
+    ("language rust\nlanguage c\n", 'In Rust, put this {}: if recording.lines() == 6 {{ eprintln!("here") }}, with a breakpoint on it'),
 ]
-WHERE = "where the list is read"
+WHERE = "where your code reads the list"
 # What stands beside a trace, and the section of the user's notes.
 NOTES = [
     ("note seed 17\n", "seed 17"), ("note seed 17\nnote [b] line 5, of <b>\n", "seed 17|[b] line 5, of <b>"), ("note \n", ""), ("note\n", ""),
@@ -872,7 +879,7 @@ def beginning(tally: Tally, program: str, text: str, report: dict, said: str) ->
     steps = [re.findall(r"^  \[(\S+)\] before \[(\S+)\]: ", half, re.MULTILINE) for half in (front, shown) if half]
     tally.check("refused: what it showed then, and the whole trace", steps == wanted, f"{text}{report}\n{said}")
     titles = [line for line in front.splitlines() if line.startswith("What the")]
-    tally.check("refused: under which title", titles == ["What they show, each element before the next, and round again"], said)
+    tally.check("refused: under which title", titles == ["What they show: each element before the next, in a circle"], said)
     others = " too, and names other responses" if behind["k"] == report["k"] else ""
     ending = f" Of the whole trace the program says `refused {report['k']}`{others}."
     tally.check("refused: the whole trace's number", said.splitlines()[0].endswith(ending) == bool(wanted[1:])
@@ -903,7 +910,7 @@ def sooner(tally: Tally, program: str, text: str, report: dict, said: str) -> tu
     headline, is_other = said.splitlines()[0], of_whole != of_first
     tally.check("a fault: its headline", headline.startswith(of_first.partition(" ")[0]) and headline.endswith(f" Of the whole trace the program says `{of_whole}`.") == is_other
                 and ("the whole trace" in headline) == is_other, f"{text}{report}\n{said}")
-    tally.check("a fault: what the whole trace names", bool(paragraph(said, "What the program names of the whole trace")) == is_other,
+    tally.check("a fault: what the whole trace names", bool(paragraph(said, "What the program names in the whole trace")) == is_other,
                 f"{text}{report}\n{said}")
     return first, wanted
 
@@ -1003,10 +1010,10 @@ def places(tally: Tally, program: str, folder: str) -> None:
         Path(f"{path}.lines").write_bytes(beside.encode())
         got = explain(program, ["--html", str(page), str(path)])
         lines = wanted.split("|") if wanted else []
-        told_first, _, section = got.out.decode().partition("\nIn your code\n")
+        before, section, last = about_code(got.out.decode())
         is_warned = not beside.startswith("7")
         tally.check(f"places: {name}", got.status == 1 and not got.err and [line.strip() for line in section.splitlines()] == lines
-                    and (is_warned or told_first == bare), got)
+                    and (is_warned or before + last == bare), got)
         tree = ElementTree.fromstring(page.read_text())
         shown = [[told(node) for node in after.iter("li")] for head, after in zip(tree.iter(), by_next(tree)) if told(head) == "In your code"]
         tally.check(f"places: {name}, on the page", shown == ([lines] if lines else []), shown)
@@ -1020,12 +1027,13 @@ def places(tally: Tally, program: str, folder: str) -> None:
     tally.check("places: of a log", paragraph(got, "In your log") == "  my.log.1:1: line 3\n  my.out:2: line 4\n  my.tsv:2: line 5\n  deep/my.ndjson:3: line 7" and
                 paragraph(got, "In a debugger") == "  stop before line 7, where replica 1 reads the list. The editor then writes deep/my.ndjson:3.", got)
     kept = smaller.read_text().splitlines()[2:], Path(f"{smaller}.lines").read_text()
-    tally.check("places: of a small trace", kept == (["0 ins a 0 : a", "1 recv 0 1", "1 read :"], "5\n3 my.log.1:1\n4 my.out:2\n5 deep/my.ndjson:3\n"), kept)
+    tally.check("places: of a small trace", kept == (["0 ins a 0 : a", "1 recv 0 1", "1 read : a", "1 read :"],
+                                                   "6\n3 my.log.1:1\n4 my.out:2\n5 my.tsv:2\n6 deep/my.ndjson:3\n"), kept)
     Path(f"{path}.lines").write_text("7\nlog\n3 journal:1\n4 my.py:2\n5 my.py:2\n7 a, b:3\n")
     got = explain(program, ["--small", str(smaller), str(path)]).out.decode()
     kept = Path(f"{smaller}.lines").read_text()
     tally.check("places: of a log of any name", paragraph(got, "In your log") == "  journal:1: line 3\n  my.py:2: lines 4 and 5\n  a, b:3: line 7" and
-                "breakpoint" not in got and kept == "5\nlog\n3 journal:1\n4 my.py:2\n5 a, b:3\n", (got, kept))
+                "breakpoint" not in got and kept == "6\nlog\n3 journal:1\n4 my.py:2\n5 my.py:2\n6 a, b:3\n", (got, kept))
     Path(f"{path}.lines").write_text("7\n3 my.log:1\n4 my.py:2\n5 my.log:2\n7 my.log:3\n")
     got = explain(program, [str(path)]).out.decode()
     tally.check("places: of a log and of code", "\nIn your code\n" in got and "breakpoint" in got, got)
@@ -1042,14 +1050,14 @@ def places(tally: Tally, program: str, folder: str) -> None:
             side.write_bytes(b"7\n3 \xff.py:1\n")
         got = explain(program, [str(path)])
         wanted = ["\ufffd.py:1: line 3"] if suffix != "a folder" else []
-        section = got.out.decode().partition("\nIn your code\n")[2].splitlines()
-        tally.check(f"places: {suffix}", got.status == 1 and not got.err and [line.strip() for line in section] == wanted, got)
+        _, section, _ = about_code(got.out.decode())
+        tally.check(f"places: {suffix}", got.status == 1 and not got.err and [line.strip() for line in section.splitlines()] == wanted, got)
     side.rmdir()
     path.write_text(text_of(1, "0 ins a 0 : a|0 del b : a"))
     side.write_text("4\n3 a.py:1\n4 a.py:2\n")
     got = explain(program, [str(path)]).out.decode()
     tally.check("places: of a line that a warning names", got.startswith("accepted, with a warning: ") and
-                "\n\nWhat this verdict may hide\n  line 4, 0.2: " in got and got.endswith("\n\nIn your code\n  a.py:2: line 4\n"), got)
+                "\n\nWhat this verdict may hide\n  line 4, 0.2: " in got and got.endswith("\n\nIn your code\n  a.py:2: line 4\n\nThe list specifications\n  strong and weak hold\n"), got)
     path.write_text(text_of(2, "0 ins a 0 : a|1 recv 0 1|0 ins b 1 : a b|1 read : a"))
     side.write_text("6\n5 a.py:1, called from b.py:9\n")
     got = explain(program, [str(path)])
@@ -1092,7 +1100,7 @@ def undelivered(tally: Tally, program: str, folder: str) -> None:
         tally.check(f"undelivered: {name}", UNDELIVERED_WORDS in told, said)
     kept = small.read_text().splitlines()[2:], Path(f"{small}.lines").read_text().splitlines()
     again = explain(program, [str(small)]).out.decode()
-    tally.check("undelivered: the small trace says the same", "written by `delivered`" in again and kept[1][0] == str(2 + len(kept[0])), (kept, again))
+    tally.check("undelivered: the small trace says the same", "Only `delivered` (line " in again and kept[1][0] == str(2 + len(kept[0])), (kept, again))
     for beside in "11\n", "11\ndelivered 3 3\n", "11\ndelivered x\n":
         Path(f"{path}.lines").write_text(beside)
         said = explain(program, [str(path)]).out.decode()
@@ -1133,9 +1141,16 @@ def astray(tally: Tally, program: str, folder: str) -> None:
     path.write_text(text_of(2, HELD_BACK))
     Path(f"{path}.lines").write_text("12\ndelivered 10 12\n")
     said = explain(program, [str(path)]).out.decode()
-    tally.check("held back: beside what it was put", said.startswith("contents 1.3: ") and "[b] was put behind a. By line 10, a was deleted there by 1.2 (line 6)\n" in
-                said and "Perhaps 0.2 finds no place there for b: its neighbour a was deleted there by 1.2 (line 6), and an editor that throws deleted "
+    tally.check("held back: beside what it was put", said.startswith("contents 1.3: ") and "[b] was put behind a. By line 10, a was already deleted there by 1.2 (line 6)\n" in
+                said and "Perhaps 0.2 finds no place there for b: its neighbour a was already deleted there by 1.2 (line 6). An editor that throws deleted "
                 "elements away too early loses such an insert or holds it back for ever." in said, said)
+
+
+def about_code(said: str) -> tuple:
+    """An explanation before its lines of code, these, and what stands behind them, which is its last section."""
+    before, _, behind = said.partition("\nIn your code\n")
+    section, _, last = behind.partition("\n\n")
+    return before, section, f"\n{last}" if last else ""
 
 
 def by_next(tree: ElementTree.Element) -> list:
@@ -1167,7 +1182,7 @@ def saved(tally: Tally, program: str, folder: str) -> None:
     Path(f"{smaller}.lines").write_text("2\n")
     explain(program, ["--small", str(smaller), str(path)])
     got = explain(program, [str(smaller)])
-    tally.check("saved: a small trace in the place of another", smaller.read_bytes().count(b"\n") == 5 and got.status == 1 and not warned(got), got)
+    tally.check("saved: a small trace in the place of another", smaller.read_bytes().count(b"\n") == 6 and got.status == 1 and not warned(got), got)
     pipe = Path(folder, "pipe")
     os.mkfifo(pipe)
     reading = subprocess.Popen(["cat", str(pipe)], stdout=subprocess.PIPE)
@@ -1402,7 +1417,7 @@ def planted_bugs(tally: Tally, program: str, folder: str) -> None:
     states = subprocess.run([sys.executable, ROOT / "examples" / "planted" / "whole_states.py", f"{folder}/states.trace"], capture_output=True)
     tally.check("whole states: the example is what the engine records", states.returncode == 0 and Path(folder, "states.trace").read_text() ==
                 (ROOT / "examples" / "whole_states_lost_text.trace").read_text(), states)
-    tally.check("planted: by its own words", done.returncode == 0 and b"overtook it in line" in got.out and got.out.endswith(b"\n\nNoted\n  planted.py overtaking 1\n"),
+    tally.check("planted: by its own words", done.returncode == 0 and b"overtook it in line" in got.out and b"\n\nNoted\n  planted.py overtaking 1\n\nThe list" in got.out,
                 (done, got))
 
 
@@ -1427,7 +1442,7 @@ def lost_messages(tally: Tally, program: str, folder: str, bug: str, seeds: int,
         unnamed += [] if is_named else [(seed, lost, said[-1])]
     named = len(said) - len(unnamed)
     tally.check(f"lost messages: {bug}: named by what is elsewhere", bug == "lost" or any(
-        ", though elsewhere it came by one of its own. " in words for words in said))
+        ", though at another replica it has one. " in words for words in said))
     tally.check(f"lost messages: {bug}", len(said) >= least and named >= share * len(said), (len(said), named, unnamed[:3]))
     print(f"{bug}: {len(said)} of {seeds} sessions fail, the words name a lost change and its replica in {named}")
     return said

@@ -87,7 +87,7 @@ WARNINGS = {
     "more": re.compile(r"and (\d+) more (?:deletes? of|inserts? past) "),
     "unheard": re.compile(r"replica (\d+) never hears of replicas? ([\d, and]+): "),
     "ends": re.compile(r"(in the end replicas [\d, and]+ show different lists|by this recording )"),
-    "unshown": re.compile(r"replica (\d+) received .* last, and nothing shows what it made of (?:that|them): "),
+    "unshown": re.compile(r"replica (\d+) received .* last, and nothing(?: but a view)? shows what it made of (?:that|them): "),
 }
 LACKED = re.compile(r"((?:\d+\.\d+ \(line \d+\)(?:, | and )?|\d+ more )+) ?never arrived at replica (\d+)")
 NAMED = re.compile(r"(\d+)\.(\d+) \(line (\d+)\)")
@@ -645,9 +645,8 @@ def expected_warnings(text: str) -> dict:
             else:
                 n += 1
                 has[replica] |= {f for f in changes if f == (replica, n)}
-                at_last = set(has[replica])
                 if entry.kind != "view":
-                    shown[replica] = set(entry.response)
+                    at_last, shown[replica] = set(has[replica]), set(entry.response)
         news[replica] = has[replica] - at_last
     acting = {replica for replica, _ in operations}
     unheard = {(r, q) for r in acting for q in {author for author, _ in changes} if r != q and not any(author == q for author, _ in has[r])}

@@ -511,8 +511,8 @@ NOTHING = "nothing was recorded: the trace has no entry, so the verdict says not
 
 # Programs that give no report, and what is said of each.
 BROKEN = [("cat > /dev/null; kill -9 $$", "{} was ended by signal 9"), ("cat > /dev/null", "{} ended with status 0 and printed no report"),
-          ("cat > /dev/null; echo '{\"verdict\": '", "{} printed what is no report"),
-          ("cat > /dev/null; echo '{}'", "{} printed what is no report"),
+          ("cat > /dev/null; echo '{\"verdict\": '", "{} printed something that is no report"),
+          ("cat > /dev/null; echo '{}'", "{} printed something that is no report"),
           ("cat > /dev/null; echo no >&2; exit 3", "{} ended with status 3: no")]
 
 # Explains an empty recording in each language; in Rust it is the command that is built of USES, without a word.

@@ -95,7 +95,7 @@ SAID = [
      f"read 0 {UUID} {UUID_DIGITS} -> ok 3\nid_of {UUID_DIGITS} -> none\nid_of long1 -> ok {UUID}\n",
      [f"0 ins {UUID_DIGITS} 0 :", f"0 ins long1 0 : {UUID_DIGITS}", f"0 read : long1 {UUID_DIGITS}"]),
     ("a name that a UUID has", f"new 1 -> ok\ninsert 0 {UUID} 0 -> ok 1\n"
-     f"read 0 {UUID_DIGITS} -> refused name \"{UUID_DIGITS}\" stands for the id \"{UUID}\" already\nread 0 {UUID} -> ok 2\n",
+     f"read 0 {UUID_DIGITS} -> refused name \"{UUID_DIGITS}\" is already used for the id \"{UUID}\"\nread 0 {UUID} -> ok 2\n",
      [f"0 ins {UUID_DIGITS} 0 :", f"0 read : {UUID_DIGITS}"]),
     ("long ids", f"new 2 -> ok\ninsert 0 {LETTERS32}x 0 {LETTERS32}x -> ok 1\ninsert 1 4@{LETTERS32} 0 {LETTERS32}x 4@{LETTERS32} -> ok 1\n"
      f"delete 1 {LETTERS32}x 4@{LETTERS32} -> ok 2\nread 0 {'%C3%A4' * 17} -> ok 2\nid_of long1 -> ok {LETTERS32}x\n"
@@ -104,7 +104,7 @@ SAID = [
     ("ids that are almost UUIDs", "new 1 -> ok\n" + "".join(f"read 0 {one} -> ok {n}\n" for n, one in enumerate(ALMOST_UUIDS, 1)),
      ["0 read : long1", "0 read : long2", "0 read : long3"]),
     ("numbers that names have", f"new 1 -> ok\ninsert 0 long1 0 -> ok 1\nread 0 {LETTERS32}x -> ok 2\n"
-     f"read 0 long2 -> refused name \"long2\" stands for the id \"{LETTERS32}x\" already\nread 0 longer -> ok 3\n",
+     f"read 0 long2 -> refused name \"long2\" is already used for the id \"{LETTERS32}x\"\nread 0 longer -> ok 3\n",
      ["0 ins long1 0 :", "0 read : long2", "0 read : longer"]),
     ("a refused call keeps no number", f"new 1 -> ok\nread 0 {LETTERS32}x a:b -> refused name \"a:b\" {NAME}\nid_of long1 -> none\n"
      f"read 0 long1 {LETTERS32}y a:b -> refused name \"a:b\" {NAME}\nread 0 {LETTERS32}z {UUID} -> ok 1\n"
@@ -121,7 +121,7 @@ SAID = [
     ("an id whose translation is another's name", "new 1 -> ok\ninsert 0 e2-alice 0 -> ok 1\nread 0 2@alice e2-alice -> ok 2\n"
      "id_of long1 -> ok 2@alice\nid_of e2-alice -> none\n", ["0 ins e2-alice 0 :", "0 read : long1 e2-alice"]),
     ("a name that a translated id has", "new 1 -> ok\ninsert 0 2@alice 0 2@alice -> ok 1\n"
-     'read 0 e2-alice -> refused name "e2-alice" stands for the id "2@alice" already\nread 0 2@alice -> ok 2\n',
+     'read 0 e2-alice -> refused name "e2-alice" is already used for the id "2@alice"\nread 0 2@alice -> ok 2\n',
      ["0 ins e2-alice 0 : e2-alice", "0 read : e2-alice"]),
     ("an id that is too long when it is translated", f"new 1 -> ok\ninsert 0 1{LETTERS32[:30]}@ 0 {LETTERS32[:31]}@ -> ok 1\n"
      f"id_of long1 -> ok 1{LETTERS32[:30]}@\n", [f"0 ins long1 0 : {LETTERS32[:31]}-"]),
@@ -129,14 +129,14 @@ SAID = [
     ("a refused call keeps no translation", f"new 1 -> ok\nread 0 a@b a:b -> refused name \"a:b\" {NAME}\nid_of a-b -> none\n"
      f"read 0 c-d a:b -> refused name \"a:b\" {NAME}\nread 0 a-b c@d -> ok 1\nid_of c-d -> ok c@d\n", ["0 read : a-b c-d"]),
     ("a long id of odd letters", f"new 1 -> ok\nread 0 {ODD_ID} -> ok 1\n"
-     f'read 0 long1 -> refused name "long1" stands for the id "{ODD_SHOWN}" already\n', ["0 read : long1"]),
+     f'read 0 long1 -> refused name "long1" is already used for the id "{ODD_SHOWN}"\n', ["0 read : long1"]),
     ("a long id of odd letters in one replica's log", f"new 3 1 -> ok\nread 1 {ODD_ID} -> refused {ONE_NUMBER.format(ODD_SHOWN)}\n", []),
     ("one replica's log translates, and numbers nothing", "new 3 1 -> ok\nread 1 2@alice -> ok 1\n"
      f"read 1 2,alice -> refused {ONE_NUMBER.format('2,alice')}\nread 1 2@bob -> ok 2\n", ["1 read : e2-alice", "1 read : e2-bob"]),
 ]
 
 # By now everything has arrived everywhere. Between two replicas' lists stands a `/`.
-NOT_DELIVERED = "refused delivered wants the list of each of the {} replicas, not of {}"
+NOT_DELIVERED = "refused delivered takes one list for each of the {} replicas, not of {}"
 DELIVERED = [
     ("what is missing", "new 3 -> ok\ninsert 0 a 0 a -> ok 1\ninsert 1 b 0 b -> ok 1\nreceived 0 1 1 -> ok\n"
      "delivered b a / b a / b a -> ok\nlines -> ok 11\nread 2 b a -> ok 2\n",
@@ -212,7 +212,7 @@ CLOCKS = [
     ("a clock of a change that is not there", "new 3 -> ok\ninsert 0 a 0 a -> ok 1\nread 0 a -> ok 2\n"
      "received_clock 1 0 1 2 0 0 -> refused the clock counts 2 changes of replica 0, which has recorded 1\n"
      "received_clock 1 0 1 1 0 1 -> refused the clock counts 1 changes of replica 2, which has recorded 0\n"
-     "received_clock 1 2 1 1 0 0 -> refused the clock counts no change of replica 2, whose update it is\n"
+     "received_clock 1 2 1 1 0 0 -> refused this is an update of replica 2, but its clock counts no change of replica 2\n"
      "received_clock 1 0 2 1 0 0 -> refused an update carries 1 to 1 of the changes that its clock counts, not 2\n"
      "received_clock 1 0 0 1 0 0 -> refused an update carries 1 to 1 of the changes that its clock counts, not 0\n"
      "received_clock 1 0 1 1 0 -> refused a clock has a count for each of 3 replicas\n"
@@ -345,9 +345,9 @@ ODD_REPLICA = REPLICA + 'the string "\\x3a:\\x1b\\x0a' + "1" * 36 + '"..'
 OWN_TYPES = {
     "py": [POSITION + "the float nan", POSITION + "a value of type list", "a name is a string, not a value of type bytes",
            'operation number is not a whole number from 1 to 4294967295 but the string "1"',
-           "number of changes is not a whole number from 1 to 1 but None", "delivered wants the list of each of the 2 replicas, not None",
-           'delivered wants the list of each of the 2 replicas, not the string "ab"', "no replica 2 among 0 to 1",
-           "delivered wants the list of each of the 2 replicas, not of 1", "a response is a list of names", NO_NOTE.partition(" ")[2],
+           "number of changes is not a whole number from 1 to 1 but None", "delivered takes one list for each of the 2 replicas, not None",
+           'delivered takes one list for each of the 2 replicas, not the string "ab"', "no replica 2 among 0 to 1",
+           "delivered takes one list for each of the 2 replicas, not of 1", "a response is a list of names", NO_NOTE.partition(" ")[2],
            REPLICA + 'the string "' + "1" * 40 + '"..', "a recording takes `weak` only with `stop`: else give it to `judge` and `explain`",
            ODD_REPLICA, "no change with the id ('a', '\\xc3\\xa4\\n') has been recorded"],
     "el": [ODD_REPLICA, REPLICA + "the symbol \\x3a:a\\x0ab"],
@@ -355,9 +355,9 @@ OWN_TYPES = {
             "a name is a string, not undefined", "a name is a string, not undefined", POSITION + "null", POSITION + "the number NaN",
             POSITION + "an array", POSITION + "an object", POSITION + "a function",
             'operation number is not a whole number from 1 to 4294967295 but the string "1"',
-            "number of changes is not a whole number from 1 to 1 but null", "delivered wants the list of each of the 2 replicas, not null",
-            'delivered wants the list of each of the 2 replicas, not the string "ab"', "no replica 2 among 0 to 1",
-            "delivered wants the list of each of the 2 replicas, not of 1", "a response is a list of names", NO_NOTE.partition(" ")[2],
+            "number of changes is not a whole number from 1 to 1 but null", "delivered takes one list for each of the 2 replicas, not null",
+            'delivered takes one list for each of the 2 replicas, not the string "ab"', "no replica 2 among 0 to 1",
+            "delivered takes one list for each of the 2 replicas, not of 1", "a response is a list of names", NO_NOTE.partition(" ")[2],
             REPLICA + 'the string "' + "1" * 40 + '"..', "an id of a change is a string or a number, not a Symbol",
             'name "a b" ' + NAME, "count of a clock is not a whole number from 0 to 4294967295 but undefined",
             "a recording takes `weak` only with `stop`: else give it to judge() and explain()", ODD_REPLICA]}
@@ -377,7 +377,7 @@ LIMITS = [
     ("inserts", [f"insert 0 {name} 0" for name in ELEMENTS[:4095]], "insert 0 z 0 -> ok 4096", "insert 0 y 0",
      f"replica 0 has 4096 inserts, {FULL}", "0 ins y 0 :", "inserts full"),
     ("names of a response", ["read 0"], f"read 0 {' '.join(ELEMENTS[:4096])} -> ok 2", f"read 0 {' '.join(ELEMENTS)}",
-     f"a response of 4097 names, {FULL} is 4096", f"0 read : {' '.join(ELEMENTS)}", "long response"),
+     "a response of 4097 names; a trace takes at most 4096", f"0 read : {' '.join(ELEMENTS)}", "long response"),
     ("names of all responses", [f"read 0 {' '.join(ELEMENTS[:4096])}"] * 63, f"read 0 {' '.join(ELEMENTS[:4096])} -> ok 64",
      "read 0 a", f"262145 names over the responses of replica 0, {FULL} is 262144", "0 read : a", "places full"),
 ]
@@ -542,7 +542,7 @@ def check_full_delivery(tally: Tally, recorder: Recorder) -> None:
     got = recorder.answers([fields(call) for call in calls])
     full = f"full replica 1 has 16384 entries, {FULL}"
     tally.check(f"{recorder.language}: delivered at the limit", got[16386:] == [full, "ok 16387", "ok", full, "ok 16388"], got[16386:])
-    long = f"full a response of 4097 names, {FULL} is 4096"
+    long = "full a response of 4097 names; a trace takes at most 4096"
     calls = ["new 2", f"delivered / {' '.join(ELEMENTS)}", "lines", "read 0"]
     got = recorder.answers([fields(call) for call in calls])
     tally.check(f"{recorder.language}: delivered, a long list", got[1:] == [long, "ok 2", "ok 1"], got)
@@ -1271,7 +1271,7 @@ LOST_ONE = "If everything was delivered, it was lost or is still held back"
 LOST_SOME = "If everything was delivered, they were lost or are still held back"
 OF_NOTHING = ("line {0}, 0.{1}: replica 0 deleted {2}, which no line inserts, so no response shows whether it was deleted: is that its "
               "name, and was its insert recorded?")
-PAST_END = "line {0}, 0.{1}: replica 0 inserted {2} at position {3} of a list of {4}, so at its end: is that the position that was asked for?"
+PAST_END = "line {0}, 0.{1}: replica 0 inserted {2} at position {3} of a list of length {4}, which counts as its end: is that the position that was asked for?"
 
 # Calls of accepted recordings, and what the verdict on each may hide.
 WARNED = [
@@ -1286,7 +1286,7 @@ WARNED = [
      [f"by this recording 0.2 (line 5), 0.3 (line 6), 0.4 (line 7) and 1 more never arrived at replica 1. {LOST_SOME}"]),
     ("three replicas, two alike", ["new 3", "insert 1 a 0 a", "received 0 1 1", "received 2 1 1", "read 0 a", "insert 1 b 1 a b",
                                    "read 2 a"],
-     ["in the end replicas 0, 1 and 2 show different lists (0 and 2 the same one): 1.2 (line 7) never arrived at replica 0 and 1.2 (line 7) "
+     ["in the end replicas 0, 1 and 2 show different lists (0 and 2 show the same one): 1.2 (line 7) never arrived at replica 0 and 1.2 (line 7) "
       f"never arrived at replica 2 by this recording. {LOST_SOME}"]),
     ("one that both deleted", ["new 2", "insert 0 a 0 a", "received 1 0 1", "delete 0 a", "delete 1 a", "received 0 1 1", "read 0",
                                "read 1"],
@@ -1295,9 +1295,14 @@ WARNED = [
      ["in the end replicas 0 and 1 show different lists", NEVER_HEARS.format(0, "replica 1")]),
     ("replicas that it never hears of", ["new 3", "insert 0 a 0 a", "insert 1 b 0 b", "read 2", "received 0 1 1", "received 1 0 1",
                                          "read 0 b a", "read 1 b a"],
-     ["in the end replicas 0, 1 and 2 show different lists (0 and 1 the same one)", NEVER_HEARS.format(2, "replicas 0 and 1")]),
+     ["in the end replicas 0, 1 and 2 show different lists (0 and 1 show the same one)", NEVER_HEARS.format(2, "replicas 0 and 1")]),
     ("no list at the end", ["new 2", "insert 0 a 0 a", "insert 1 b 0 b", "received 0 1 1", "read 0 b a", "received 1 0 1", "view 1 a"],
-     ["in the end replicas 0 and 1 show different lists"]),
+     ["in the end replicas 0 and 1 show different lists",
+      "replica 1 received 0.1 (line 7) last, and nothing but a view shows what it made of that: let each replica read at the end"]),
+    ("a list, and then a view", ["new 2", "insert 0 a 0 a", "received 1 0 1", "read 1 a", "view 1 a"], []),
+    ("a view between two receipts", ["new 2", "insert 0 a 0 a", "read 1", "received 1 0 1", "view 1 a", "insert 0 b 0 b a", "received 1 0 2"],
+     ["in the end replicas 0 and 1 show different lists",
+      "replica 1 received 0.1 (line 5) and 0.2 (line 8) last, and nothing shows what it made of them: let each replica read at the end"]),
     ("nothing shown of what came last", ["new 2", "insert 0 a 0 a", "read 1", "received 1 0 1", "received 1 0 1"],
      ["in the end replicas 0 and 1 show different lists",
       "replica 1 received 0.1 (line 5) last, and nothing shows what it made of that: let each replica read at the end"]),

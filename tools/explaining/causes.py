@@ -15,71 +15,71 @@ MOST_TOLD = 3  # deletes, or elements, that are told one by one
 MOST_MET = 6  # changes for which a position was perhaps not adjusted
 
 ARRIVAL = ("Look at the recorder first: `received` must be called right after the change is applied. Then at the transport: no "
-           "change may arrive before those that its author had. Then at the editor: does it lose a change, apply it twice, or apply it to another "
+           "change may arrive before those that its author had seen. Then at the editor: does it lose a change, apply it twice, or apply it to another "
            f"element? {GUIDE} says where the calls go.")
-UNDELIVERED = ("{lines} by `delivered`: before it nothing shows that {changes} {were} applied at replica {replica}. {They} lost, or "
+UNDELIVERED = ("Only `delivered` ({lines}) says that {changes} arrived at replica {replica}; no response before shows {them}. {They} lost, or "
                "{are} held back for ever{waiting}. Look at what keeps changes waiting.")
 WAITING = "; {others}, which came later, perhaps wait{s} for {it}"
-NO_PLACE = (" Perhaps {insert} finds no place there for {element}: its neighbour {neighbours}, and an editor that throws deleted elements away too "
+NO_PLACE = (" Perhaps {insert} finds no place there for {element}: its neighbour {neighbours}. An editor that throws deleted elements away too "
             "early loses such an insert or holds it back for ever.")
 NOT_APPLIED = ("It looks as if {changes} {were} not applied at replica {replica}: lost, or held back, or `received` is called before the "
                "change is applied.{moved}")
-BROUGHT = ("No receipt at replica {replica} names {changes}, which arrived with {brought}. If each of your changes has a receipt of its "
-           "own, {brought} overtook {them}, or {they} {were} lost.")
+BROUGHT = ("No receipt at replica {replica} names {changes}: the recording counts {them} as arrived with {brought}. If each of your changes has "
+           "a receipt of its own, {brought} overtook {them}, or {they} {were} lost.")
 LOST = ("Look first at whether {changes} {were} lost on {their} way to replica {replica}, or overtaken: no receipt there names {them}, though {others}. "
-        "Where positions are sent, what comes later is then misplaced.")
+        "In an editor that sends positions, later changes then land in the wrong place.")
 OTHERS_HAVE = "each other change of replica {author} has one"
-ELSEWHERE_ONE = {True: "elsewhere it came by one of its own", False: "elsewhere they came by receipts of their own"}
+ELSEWHERE_ONE = {True: "at another replica it has one", False: "at other replicas they have some"}
 NO_RECEIPT = ("It looks as if {changes} {were} applied at replica {replica} without a receipt: the call of `received` is missing, comes "
               "too late, or names another operation.")
 WRONG_DELETE = ("It looks as if {delete} deleted {missing} instead of {surplus}: look at how a delete finds its element where it is "
                 "applied, and at whether the recorder names the element that was deleted.{moved}")
-MOVED_DELETE = (" In an editor that sends positions, its position was perhaps not adjusted for {changes}, which its author had not "
-                "seen{back}.{tie}")
+MOVED_DELETE = (" In an editor that sends positions, the position of {delete} was perhaps not adjusted for {changes}, which the author of "
+                "{delete} had not seen{back}.{tie}")
 MOVED_BEFORE = "; or an earlier insert was not adjusted for a delete"
-PUT_AT_ONCE = (" {others} {were} inserted at the place of {element}, neither author knowing of the other: look also at which comes first "
-               "there.")
-SECOND_DELETE = ("{again} deletes {element}, already deleted here by {first}: look at what the editor does with a delete whose element "
+PUT_AT_ONCE = (" {others} {were} inserted at the same place as {element}, and neither author had seen the other's insert. Look also at which "
+               "comes first there.")
+SECOND_DELETE = ("{again} deletes {element}, already deleted at replica {replica} by {first}: look at what the editor does with a delete whose element "
                  "is gone. It may have deleted {missing} instead.{moved}")
-CAUSAL = ("Apply an operation only after everything that its author had, or send both together. If the editor itself holds it back, write "
+CAUSAL = ("Apply an operation only after everything that its author had seen, or send both together. If the editor itself holds it back, write "
           f"its receipt only when it is applied. {GUIDE} has both ways.")
 OVERTAKEN = "Look at the order in which operations arrive: {name} was overtaken, as told above. " + CAUSAL
 LOST_OR_OVERTAKEN = ("Look first at whether {name} was lost on its way to replica {replica}: no receipt there names it. If it was overtaken, look "
                      "at the order in which operations arrive. ") + CAUSAL
-LOST_NEIGHBOUR = ("Look at inserts beside deleted elements: {element} arrived where its neighbour was deleted, as told above. An editor "
+LOST_NEIGHBOUR = ("Look at inserts beside deleted elements: when {element} arrived, its neighbour was already deleted there, as told above. An editor "
                   "that throws deleted elements away too early finds no place for it, and loses it or holds it back for ever.")
 NUMBERS_OF_INSERTS = " Often the number that orders inserts does not grow when changes arrive, or the neighbour is not found."
 MAPPING = ("Look at how the position that a user sees is mapped to a place in the editor's own list{deleted}; and at whether the "
            "recorder writes the position that was asked for.")
 NUMBERS = ("Look at the numbers that order inserts at one place, if the editor has such (a clock, ids): {element} stands behind "
-           "{passed}, which replica {replica} had already. Perhaps the number of {element} is not greater than {theirs}, as it must be. Usual causes: "
+           "{passed}, which replica {replica} had already. The number of {element} must be greater than {theirs}; perhaps it is not. Usual causes: "
            'the clock does not advance when changes arrive; ids are compared as text, so "10" comes before "9".')
-BESIDE_DELETED = ("Look at inserts beside deleted elements, if replicas throw these away: the lines above name {which}. Without its "
-                  "neighbour its place is lost.")
-SEVERAL_DELETED = ("Look at positions beside deleted elements: any {fewer} of {named} fit together, but an insert beside an element that "
-                   "another replica has deleted has perhaps lost its place. The lines above say which elements are deleted for which of "
-                   "them.")
-SEVERAL_APART = ("Look at how a replica orders elements when it has only some of them: any {fewer} of {named} fit together, and none of the "
-                 "elements is deleted for any of them, so each replica still lacks some. Often the rule that orders concurrent inserts "
-                 "is not the same everywhere.")
-WEAK_ALONE_HOLDS = ("An editor whose server orders all changes, as Jupiter's does, promises the weak list specification alone, which holds up to "
-                    "here. Ask for that with --weak.")
+BESIDE_DELETED = ("Look at inserts beside deleted elements, if your replicas throw deleted elements away: the lines above name {which}. Without "
+                  "that neighbour nothing says where the insert belongs.")
+SEVERAL_DELETED = ("Look at positions beside deleted elements: any {fewer} of {named} fit together, but perhaps an insert lost its place "
+                   "because its neighbour was deleted elsewhere. The lines above say which elements each response no longer has.")
+SEVERAL_APART = ("Look at how a replica orders elements when it has only some of them: any {fewer} of {named} fit together. None of "
+                 "them leaves out an element because it was deleted, so each replica had not received some yet. Often the rule that orders "
+                 "concurrent inserts is not the same everywhere.")
+WEAK_ALONE_HOLDS = ("An editor whose server orders all changes, as Jupiter's does, promises only the weak list specification, and up to this line "
+                    "that holds. To ask for that only, use --weak.")
 CONCURRENT = ("Look at the order of concurrent inserts: {first} and {then} were inserted without knowing of each other, and were shown "
               "in two different orders. Use a rule that gives the same order everywhere (by the replicas' numbers, say), and not the "
               "order in which they arrive.{moved}")
-POSITIONS = ("Look at how a position is adjusted where a change arrives: that of {element} was perhaps not adjusted for {changes}, which replica {replica} "
-             "had and its author did not{back}. Or look at the order of concurrent inserts: {first} and {then} were inserted without knowing of each "
+POSITIONS = ("Look at how a position is adjusted where a change arrives: the position of {element} was perhaps not adjusted for {changes}, which "
+             "replica {replica} had and the author of {element} had not{back}. Or look at the order of concurrent inserts: {first} and {then} were inserted without knowing of each "
              "other, and were shown in two different orders. Use a rule that gives the same order everywhere (by the replicas' numbers, say).")
 EITHER = ("Look at the order of concurrent inserts: {first} and {then} were inserted at one place without knowing of each other, and were shown in two "
           "different orders. Either the rule that orders them is not the same everywhere; or the position of {element} was not adjusted for {changes}, "
-          "which replica {replica} had and its author did not{back}.")
-SEEN = ("Look at where a replica places an incoming insert: {later} inserted {new} when it had {old}, so their order was known already, "
-        "and still it differs.{numbers}{moved}")
-MOVED_INSERT = (" In an editor that sends positions, that of {element} was perhaps not adjusted for {changes}, which replica {replica} "
-                "had and its author did not{back}.")
-MOVED_BACK = {True: "; or that of the delete was not adjusted for an insert", False: "; or those of the deletes were not adjusted for inserts"}
+          "which replica {replica} had and the author of {element} had not{back}.")
+SEEN = ("Look at where a replica places an incoming insert: {later} inserted {new} when it had {old}, so their order was fixed, and yet "
+        "two responses differ in it.{numbers}{moved}")
+MOVED_INSERT = (" In an editor that sends positions, the position of {element} was perhaps not adjusted for {changes}, which replica {replica} "
+                "had and the author of {element} had not{back}.")
+MOVED_BACK = {True: "; or the position of the delete was not adjusted for an insert",
+              False: "; or the positions of the deletes were not adjusted for inserts"}
 DOUBLED = ("Look at the recorder first: each inserted element needs a name of its own, for ever. Equal letters are different elements, "
-           "each element of a paste is a new one, and so is an undone delete where the editor makes a new one.")
+           "each element of a paste is a new one, and so is an element that undo brings back, where the editor makes a new one.")
 
 
 class Cause(NamedTuple):
@@ -113,14 +113,15 @@ def undelivered(evidence: Evidence) -> Cause:
     """That changes had arrived is said by `delivered` alone: first those whose authors had none of the others."""
     changes, replica = evidence.undelivered, evidence.operations[0].replica
     lines = sorted({evidence.recording.arrival(change, replica).line for change in changes})
-    written = f"{'Line' if len(lines) == 1 else 'Lines'} {listed(list(map(str, lines)), MOST_TOLD)} {'was' if len(lines) == 1 else 'were'} written"
+    written = f"line{'' if len(lines) == 1 else 's'} {listed(list(map(str, lines)), MOST_TOLD)}"
     first = [change for change in changes if not any(other is not change and change.has_seen(other) for other in changes)]
     others = [change for change in changes if change not in first]
     waiting = WAITING.format(others=changes_told(others)["changes"], s="" if others[1:] else "s", it="these" if first[1:] else "it") if others else ""
-    told, gone = UNDELIVERED.format(lines=written, replica=replica, waiting=waiting, **changes_told(first)), evidence.deleted_beside(first[0], replica)
+    told = UNDELIVERED.format(lines=written, replica=replica, waiting=waiting, them="them" if first[1:] else "it", **changes_told(first))
+    gone = evidence.deleted_beside(first[0], replica)
     if not gone:
         return Cause("not delivered", told)
-    neighbours = joined([f"{delete.element} was deleted there by {at(delete)}" for delete in gone])
+    neighbours = joined([f"{delete.element} was already deleted there by {at(delete)}" for delete in gone])
     return Cause("not delivered, no place", told + NO_PLACE.format(insert=first[0].name, element=first[0].element, neighbours=neighbours))
 
 
@@ -183,7 +184,7 @@ def moved_delete(evidence: Evidence, delete: Operation) -> str:
     others = [other.element for insert in evidence.recording.inserts.get(delete.element, [])[:1]
               for other in put_there_at_once(evidence.recording, insert, receipt)]
     back = MOVED_BEFORE if met_before(evidence.recording, delete, receipt) else ""
-    return MOVED_DELETE.format(changes=named(unknown), back=back, tie=at_once(delete.element, others) if others else "")
+    return MOVED_DELETE.format(delete=delete.name, changes=named(unknown), back=back, tie=at_once(delete.element, others) if others else "")
 
 
 def changes_told(changes: list) -> dict:
@@ -212,7 +213,7 @@ def wrong_delete(evidence: Evidence, operation: Operation) -> list:
 
 
 def second_delete(evidence: Evidence) -> list:
-    return [Cause("second delete", SECOND_DELETE.format(again=at(again), element=again.element, first=at(first),
+    return [Cause("second delete", SECOND_DELETE.format(again=at(again), element=again.element, first=at(first), replica=evidence.operations[0].replica,
                                                         missing=listed(evidence.lost, MOST_TOLD), moved=moved_delete(evidence, again)))
             for again, first in evidence.second_deletes[:1]]
 
@@ -268,7 +269,7 @@ def of_refusal(evidence: Evidence, weak: bool) -> list:
 def beside_deleted(evidence: Evidence) -> list:
     if not evidence.lost_neighbours and not evidence.hidden_neighbours:
         return []
-    which = "one that arrived where its neighbour was deleted" if evidence.lost_neighbours else "one whose neighbour was deleted later"
+    which = "an insert that arrived after its neighbour was deleted there" if evidence.lost_neighbours else "an insert whose neighbour was deleted later"
     return [Cause("beside deleted", BESIDE_DELETED.format(which=which))]
 
 

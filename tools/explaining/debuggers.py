@@ -15,7 +15,7 @@ LANGUAGES = {
     "emacs-lisp": ("Emacs Lisp", "(when (= (domepeeler-lines recording) {}) (debug))"),
 }
 USUAL = "python"  # of a trace of which nothing says who recorded it
-BEGINS, READS = "where a change begins to be applied, local or remote", "where the list is read"
+BEGINS, READS = "where your code begins to apply a change, local or remote", "where your code reads the list"
 
 
 def stop_of(evidence: Evidence) -> tuple:
@@ -56,7 +56,7 @@ def statement(entry: Operation | Receipt, language: str) -> str:
     """How to stop before this entry, in the recorder's language."""
     name, words = LANGUAGES.get(language) or LANGUAGES[USUAL]
     is_read = isinstance(entry, Operation) and entry.kind in ("read", "view")
-    return f" In {name}, {READS if is_read else BEGINS}: {words.format(entry.line - 1)}"
+    return f" In {name}, put this {READS if is_read else BEGINS}: {words.format(entry.line - 1)}"
 
 
 def doing(entry: Operation | Receipt) -> str:

@@ -291,7 +291,7 @@ class Evidence:
             return None
         brought, replica = way[-1], operation.replica
         if change.replica != brought.seen.replica:
-            own = self.recording.receipt_of(change, replica)
+            own = self.recording.own_receipt(change, replica) or self.recording.receipt_of(change, replica)
             return Overtaking(brought, own) if own is None or own.line > brought.line else None
         own = self.recording.own_receipt(change, replica)
         is_overtaken = own.line > brought.line if own else (self.are_others_received(change, replica)

@@ -117,8 +117,8 @@ def write_small(path: str, evidence: Evidence, told: Evidence, program: str, kno
         fail(f"cannot write {shown(path + SIDE)}: it is no regular file")
     if beside_it or os.path.isfile(path + SIDE):  # of a trace that was in this file before
         write(path + SIDE, "".join(f"{line}\n" for line in [len(lines), *beside_it]))
-    print(f"\n{shown(path)} {same_as(evidence, told)} in {len(lines)} lines of {len(evidence.recording.lines)}; your editor may answer "
-          "otherwise to these steps. Its operations in the whole trace:")
+    print(f"\n{shown(path)} {same_as(evidence, told)} in {len(lines)} lines of {len(evidence.recording.lines)}. If you repeat these "
+          "steps, your editor may answer otherwise. Its operations in the whole trace:")
     named = [f"{name} = {operation.name} (line {operation.line})" for name, operation in small.operations]
     print("  " + ", ".join(named[:MOST_TOLD]) + (f", and {len(named) - MOST_TOLD} more" if len(named) > MOST_TOLD else ""))
 
@@ -167,7 +167,7 @@ def main() -> None:
             explain(asked, program, trace, side, judged)
         except Unexplained as error:
             is_passing = passes(judged.report, asked.weak)
-            told = "Is it domepeeler? Its" if is_passing else "The program's word counts; its"
+            told = "Is it domepeeler? Its" if is_passing else "The program's verdict stands; its"
             print(f"{NAME}: can't explain this verdict: {shown(str(error))}. {told} report:\n{shown_lines(report_text(program, trace))}", end="",
                   file=sys.stderr)
             sys.exit(2 if is_passing else judged.status)  # what may be wrong is no pass

@@ -76,7 +76,7 @@ def lines_beside(trace: bytes, side: Side) -> list:
 
 
 def with_places(told: Explanation, known: Beside) -> Explanation:
-    """The explanation, and after it the places of the lines that it names, and the user's notes. Where the places are lines of a log, no
+    """The explanation, before its last section the places of the lines that it names, and the user's notes. Where the places are lines of a log, no
     debugger's statement fits: the recording is not the editor's. Nor does one where the trace was merged: each machine's recording has
     other lines."""
     named = {int(number) for section in told.sections for line in section.lines for number in LINE.findall(line)}
@@ -85,9 +85,9 @@ def with_places(told: Explanation, known: Beside) -> Explanation:
     sections = told.sections
     if is_log or known.is_merged:
         sections = [without_statement(section, found if is_log else {}) for section in sections]
-    if found:
-        sections = [*sections, Section(LOG if is_log else CODE, by_place(found))]
-    return told._replace(sections=sections + ([Section(NOTED, [shown(note) for note in known.notes])] if known.notes else []))
+    more = [Section(LOG if is_log else CODE, by_place(found))] if found else []
+    more += [Section(NOTED, [shown(note) for note in known.notes])] if known.notes else []
+    return told._replace(sections=[*sections[:-1], *more, *sections[-1:]])
 
 
 def by_place(found: dict) -> list:

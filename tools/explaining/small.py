@@ -148,16 +148,16 @@ def candidates(evidence: Evidence) -> list:
     overtakings = [found for _, found in evidence.overtakings]
     late = tuple({found.own for found in overtakings if found.own})
     misplaced = evidence.operations[0] if evidence.report["verdict"] == "position" else None
-    told = [*evidence.operations, *(receipt.seen for found in overtakings for receipt in filter(None, found))]
-    if evidence.second_deletes:  # the response before shows what was there
+    overtaking = [receipt.seen for found in overtakings for receipt in filter(None, found)]
+    told = [*evidence.operations, *overtaking]
+    if evidence.report["verdict"] == "contents":  # the response before shows what was there; what has not arrived there may be what should have
         told += evidence.before(evidence.operations[0])[0]
-    if evidence.report["verdict"] == "contents":  # what has not arrived there may be what should have
         told += [change for element in evidence.elements for change in evidence.changes(element, evidence.operations[0])]
     if evidence.report["verdict"] != "doubled":
         told = with_changes(recording, elements, told)
     every = [operation for stream in recording.streams for operation in stream if operation.line <= evidence.last_line]
     names = elements.union(recording.inserts, recording.deletes, *(operation.response for operation in evidence.operations))
-    return [Projection(recording, elements, fewer(told, evidence.operations + gone), misplaced, late),
+    return [Projection(recording, elements, fewer(told, evidence.operations + gone + overtaking), misplaced, late),
             Projection(recording, elements, told, misplaced, late),
             Projection(recording, names, every, misplaced)]
 

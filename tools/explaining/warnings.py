@@ -49,27 +49,31 @@ def warnings_of(verdict: str, trace: bytes, side: Side = NO_SIDE, is_passing: bo
 
 class Seen:
     """One replica as the entries are read: how many operations of each replica it has, now and at each operation of its own; its
-    changes, as the numbers of these operations and their lines; what came since its last operation; and the last list that it showed."""
+    changes, as the numbers of these operations and their lines; the last list that it showed, which a view is not; and what came since that."""
 
     def __init__(self, replicas: int):
         self.has = (0,) * replicas
         self.pasts = []
         self.changes, self.lines = [], []
         self.receipts = 0
-        self.at_last, self.since = self.has, []  # what it had at its last operation, and the receipts since: author, n and line
-        self.shown = None
+        self.at_last, self.since = self.has, []  # what it had at its last list, and the receipts since: author, n and line
+        self.shown, self.is_viewed = None, False  # and whether a view follows them
 
     def receive(self, author: int, n: int, past: tuple, line: int) -> None:
         self.receipts += 1
         self.has = tuple(map(max, self.has, past))
         self.since.append((author, n, line))
+        self.is_viewed = False
 
-    def act(self, replica: int) -> int:
+    def act(self, replica: int, is_view: bool) -> int:
         """The operation's number."""
         n = len(self.pasts) + 1
         self.has = self.has[:replica] + (n,) + self.has[replica + 1:]
         self.pasts.append(self.has)
-        self.at_last, self.since = self.has, []
+        if is_view:
+            self.is_viewed = True
+        else:
+            self.at_last, self.since = self.has, []
         return n
 
 
@@ -89,7 +93,7 @@ def hidden(trace: bytes) -> tuple:
             author, n = int(words[2]), int(words[3])
             one.receive(author, n, replicas[author].pasts[n - 1], line)
             continue
-        n = one.act(replica)
+        n = one.act(replica, kind == b"view")
         if kind != b"view":
             one.shown = entry.partition(b":")[2]
         if kind in (b"ins", b"del"):
@@ -100,7 +104,7 @@ def hidden(trace: bytes) -> tuple:
             before = words[4].count(b" ") - 1  # names in the list before it
             if int(words[3]) > before:
                 past_end.append(f"line {line}, {replica}.{n}: replica {replica} inserted {words[2].decode()} at position "
-                                f"{words[3].decode()} of a list of {before}, so at its end: is that the position that was asked for?")
+                                f"{words[3].decode()} of a list of length {before}, which counts as its end: is that the position that was asked for?")
         elif kind == b"del":
             deletes.append((words[2], f"line {line}, {replica}.{n}: replica {replica} deleted {words[2].decode()}, which no line inserts, "
                             "so no response shows whether it was deleted: is that its name, and was its insert recorded?"))
@@ -136,7 +140,7 @@ def different(replicas: list) -> list:
     if len(lists) < 2:
         return [f"by this recording {joined(never)}. If everything was delivered, {lost}"] if never else []
     differ = f"in the end replicas {joined(sorted(replica for same in lists.values() for replica in same))} show different lists"
-    same = [f"{joined(one)} the same one" for one in lists.values() if len(one) > 1]
+    same = [f"{joined(one)} show the same one" for one in lists.values() if len(one) > 1]
     told = differ + (f" ({joined(same)})" if same else "")
     return [f"{told}: {joined(never)} by this recording. If everything was delivered, {lost}" if never else told]
 
@@ -169,7 +173,7 @@ def unheard(replicas: list) -> list:
 
 
 def unshown(replicas: list) -> list:
-    """Of replicas whose last receipts bring changes, and are followed by nothing that it shows."""
+    """Of replicas whose last receipts bring changes, and are followed by no list that it shows, or by a view alone."""
     told = []
     for replica, one in enumerate(replicas):
         has, news = one.at_last, []
@@ -180,7 +184,8 @@ def unshown(replicas: list) -> list:
                 news.append(f"{author}.{n} (line {line})")
             has = after
         if one.pasts and news:
-            told.append(f"replica {replica} received {listed(news[:MOST_CHANGES], len(news))} last, and nothing shows what it made of "
+            but = " but a view" if one.is_viewed else ""
+            told.append(f"replica {replica} received {listed(news[:MOST_CHANGES], len(news))} last, and nothing{but} shows what it made of "
                         f"{'that' if len(news) == 1 else 'them'}: let each replica read at the end")
     return told
 

@@ -13,10 +13,10 @@ from .programs import WEAK_ALONE, is_weak_alone
 from .recordings import Operation, Receipt, Recording, place_asked
 from .telling import FIRST_STEPS, at, counted, did, joined
 
-CODE, LOG, NOTED = "In your code", "In your log", "Noted"  # titles of the last sections: places of code or of a log; the user's words
+CODE, LOG, NOTED = "In your code", "In your log", "Noted"  # titles: places of code or of a log; the user's words
 HIDDEN = "What this verdict may hide"  # the title of the section of warnings, the first one
 MOST_NAMES = 24  # of a list that is shown whole
-AROUND = "each element before the next, and round again"
+AROUND = "each element before the next, in a circle"
 LINE = re.compile(r"\bline (\d+)(?=[,):]| of the trace,| \(\d+ recv )")  # of the trace, in words; and not two names, `line` and a number
 
 
@@ -87,7 +87,7 @@ def when_it_went_wrong(evidence: Evidence, told: Evidence, weak: bool) -> list:
     before = "weak holds" if weak and not is_alone else "the session is accepted"
     lines = [f"{did(entry, is_first=True)}: up to line {last - 1} {before}; line {last} makes it {verdict}"]
     if told.report["verdict"] == "refused":
-        still = "agrees with each other response by then" if weak and not is_alone else "still fits"
+        still = "agrees with all responses up to then" if weak and not is_alone else "still fits"
         lines += [since(told, entry, still), *in_the_end(evidence.recording)]
     else:
         lines.append(f"the first {last} lines are enough to show it (`head -{last}`)")
@@ -99,10 +99,10 @@ def whole_trace(evidence: Evidence, told: Evidence) -> list:
     if evidence is told or evidence.report == told.report or evidence.report.get("steps", 0) == told.report.get("steps", 1):
         return []
     if evidence.report["verdict"] == "refused":
-        return [Section(f"What the whole trace shows, {AROUND}", shown_by(evidence, False))]
+        return [Section(f"What the whole trace shows: {AROUND}", shown_by(evidence, False))]
     if all(evidence.report.get(key) == told.report.get(key) for key in ("verdict", "at", "first", "again")):
         return []
-    return [Section("What the program names of the whole trace", [f"{did(operation)}, answered {answer(evidence, operation)}"
+    return [Section("What the program names in the whole trace", [f"{did(operation)}, answered {answer(evidence, operation)}"
                                                                   for operation in evidence.operations])]
 
 
@@ -141,14 +141,14 @@ def accepted(evidence: Evidence) -> tuple:
     order = " ".join(report["order"]) or "(there are no elements)"
     said = {0: "there was no response to judge", 1: "its one response fits one order of the elements", 2: "both responses fit one order of the elements"}
     return (f"accepted: {said.get(report['operations'], 'all ' + str(report['operations']) + ' responses fit one order of the elements')}.",
-            [Section("The first order that they follow, deleted elements too", [order])])
+            [Section("The first order that fits all responses, with deleted elements", [order])])
 
 
 def refused(evidence: Evidence) -> tuple:
     k = evidence.report["k"]
     fewer = "" if k == 2 else f" Any {counted(k - 1)} of them can."
     return (f"refused {k}: {counted(k)} responses can't be right together.{fewer}",
-            [Section(f"What they show, {AROUND}", shown_by(evidence, evidence.last_line == len(evidence.recording.lines))),
+            [Section(f"What they show: {AROUND}", shown_by(evidence, evidence.last_line == len(evidence.recording.lines))),
              Section("The elements", elements(evidence))])
 
 
@@ -219,7 +219,7 @@ def when_arrived(receipt: Receipt, deletes: list) -> str:
 
 
 def gone_there(deletes: list) -> str:
-    return joined([f"{delete.element} was deleted there by {at(delete)}" for delete in deletes])
+    return joined([f"{delete.element} was already deleted there by {at(delete)}" for delete in deletes])
 
 
 def beside_hidden(evidence: Evidence) -> list:
