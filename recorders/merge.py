@@ -11,10 +11,10 @@ that are lost count, so that the tools warn of them."""
 import os
 import sys
 
-NEEDS = f"merge.py: this needs Python {3.9} or later"  # one that is too old to read this file shows this line
+# All of this file is in words that Python 2.7 can read, so that an older Python says which one is needed, and not that it can't read this.
 
 
-def end(*fault: object) -> None:
+def end(*fault):
     """Ends with 2 at what nobody has thought of, also while this is loaded: Python's own status is one that says something of the logs."""
     sys.__excepthook__(*fault)
     os._exit(2)
@@ -23,7 +23,7 @@ def end(*fault: object) -> None:
 if __name__ == "__main__":
     sys.excepthook = end
     if sys.version_info < (3, 9):
-        sys.stderr.write("%s, and is run by %d.%d\n" % (NEEDS, sys.version_info[0], sys.version_info[1]))
+        sys.stderr.write("merge.py: this needs Python 3.9 or later, and is run by %d.%d\n" % sys.version_info[:2])
         sys.exit(2)
 
 import argparse
@@ -35,19 +35,19 @@ import stat
 from pathlib import Path
 
 SIDE = ".lines"  # the end of the name of a file beside a log or a trace
-NOTE = re.compile(rb"note .+")  # a line there: a word of the user's for the whole session
+NOTE = re.compile(br"note .+")  # a line there: a word of the user's for the whole session
 LOG_MARK = b"log"  # a line there: the places are lines of a log, not of code
 MERGED_MARK = b"merged"  # a line there: the trace was no recorder's text
-COUNT = re.compile(rb"[0-9]{1,7}")
-PLACE = re.compile(rb"([1-9][0-9]{0,6}) (.+)")  # a line's number, and from where it was recorded
+COUNT = re.compile(br"[0-9]{1,7}")
+PLACE = re.compile(br"([1-9][0-9]{0,6}) (.+)")  # a line's number, and from where it was recorded
 HEAD = 2  # lines of a text before its entries
 MOST_BYTES = 1 << 27  # of a log, or of what stands beside one
 MOST_SHOWN = 120  # letters of a line
 MOST_NOTES = 20  # as many as a recording takes
 ABSENT = errno.ENOENT, errno.ENAMETOOLONG  # what stands beside a log is not there
 RECEIPT = "recv [0-9]{1,7} [0-9]{1,7}"
-ENTRIES = {"trace 1": re.compile(f"[0-9]+ ({RECEIPT}|(ins|del|read) .*)", re.ASCII),
-           "trace 2": re.compile(f"[0-9]+ ({RECEIPT}|(ins|del|read|view) .*)", re.ASCII)}
+ENTRIES = {"trace 1": re.compile("[0-9]+ (%s|(ins|del|read) .*)" % RECEIPT, re.ASCII),
+           "trace 2": re.compile("[0-9]+ (%s|(ins|del|read|view) .*)" % RECEIPT, re.ASCII)}
 STATUSES = ("It ends with status 0, 1 where the logs can't be merged, 2 where one can't be read or the trace can't be written, and 3 where "
             "memory ran out.")
 
@@ -60,16 +60,16 @@ class Stopped(BaseException):
     """A signal that stops the program."""
 
 
-def merge(texts: list) -> str:
+def merge(texts):
     """The trace of these logs, one for each replica that did or received anything. Errors call the logs by their numbers from 1."""
-    return text_of(lines_of(texts, [f"log {number}" for number in range(1, len(texts) + 1)]))
+    return text_of(lines_of(texts, ["log %d" % number for number in range(1, len(texts) + 1)]))
 
 
-def text_of(lines: list) -> str:
-    return "".join(f"{line}\n" for line, _, _ in lines)
+def text_of(lines):
+    return "".join(line + "\n" for line, _, _ in lines)
 
 
-def lines_of(texts: list, names: list) -> list:
+def lines_of(texts, names):
     """The lines of the trace, each with the number of its log, from 0, and of its line there, from 1. Errors call the logs by these
     names."""
     if not texts:
@@ -79,37 +79,37 @@ def lines_of(texts: list, names: list) -> list:
     for name, count in zip(names, counts):
         if count != counts[0]:
             raise Unmerged("the logs begin with different lines, so they are of different sessions: "
-                           f"line 2 of {names[0]} is `{front(counts[0])}`, of {name} `{front(count)}`")
+                           "line 2 of %s is `%s`, of %s `%s`" % (names[0], front(counts[0]), name, front(count)))
     authors = {}
     for name, lines in zip(names, waiting):
         author = lines[0].split(" ")[0] if lines else None
         if author in authors:
-            raise Unmerged(f"two logs are of replica {front(author)}: {authors[author]} and {name}")
+            raise Unmerged("two logs are of replica %s: %s and %s" % (front(author), authors[author], name))
         if lines:
             authors[author] = name
-    return [(max(text.split("\n")[0] for text in texts), 0, 1), (counts[0], 0, 2), *merged(waiting)]
+    return [(max(text.split("\n")[0] for text in texts), 0, 1), (counts[0], 0, 2)] + merged(waiting)
 
 
-def entries(name: str, text: str) -> list:
+def entries(name, text):
     """The lines of a log after the first two; it is the log of one replica."""
-    *lines, rest = text.split("\n")
-    if rest or not lines[1:2] or lines[0] not in ENTRIES:
-        raise Unmerged(f"{name} is no text of a recorder, or was cut off")
+    lines = text.split("\n")
+    if lines.pop() or not lines[1:2] or lines[0] not in ENTRIES:
+        raise Unmerged("%s is no text of a recorder, or was cut off" % name)
     author = lines[2].partition(" ")[0] if lines[2:] else ""
     for place, line in enumerate(lines[2:], 3):
         if not ENTRIES[lines[0]].fullmatch(line):
-            raise Unmerged(f"line {place} of {name} is no entry: {front(line)}")
+            raise Unmerged("line %d of %s is no entry: %s" % (place, name, front(line)))
         if line.partition(" ")[0] != author:
-            raise Unmerged(f"line {place} of {name} is of another replica than line 3")
+            raise Unmerged("line %d of %s is of another replica than line 3" % (place, name))
     return lines[2:]
 
 
-def front(line: str) -> str:
+def front(line):
     """A line, or a part of one, for a message: cut where it is long."""
-    return shown(line[:MOST_SHOWN]) + (f".. ({len(line)} letters)" if len(line) > MOST_SHOWN else "")
+    return shown(line[:MOST_SHOWN]) + (".. (%d letters)" % len(line) if len(line) > MOST_SHOWN else "")
 
 
-def merged(logs: list) -> list:
+def merged(logs):
     """The lines of all logs, each with the number of its log and of its line; one log's are taken as far as they go, then the next
     one's, and so on round."""
     lines, counts, places = [], {}, [0] * len(logs)
@@ -129,7 +129,7 @@ def merged(logs: list) -> list:
     return lines
 
 
-def has_arrived(line: str, counts: dict) -> bool:
+def has_arrived(line, counts):
     """Whether the line may stand here: it is no receipt, or its operation is there."""
     words = line.split(" ")
     return words[1] != "recv" or counts.get(words[2], 0) >= int(words[3])
@@ -138,105 +138,106 @@ def has_arrived(line: str, counts: dict) -> bool:
 class Log:
     """A log in a file, and what stands beside it."""
 
-    def __init__(self, path: str):
+    def __init__(self, path):
         self.path, self.text = path, read(path)
         self.count, self.unsure = self.text.count("\n"), "holds no number of lines"  # of what stands beside it; or nothing
         try:
-            first, *self.beside = content(path + SIDE).split(b"\n")[:-1] or [b""]
+            whole = content(path + SIDE).split(b"\n")[:-1]
         except OSError as why:
-            first, self.beside = b"", []
-            self.unsure = "" if why.errno in ABSENT else f"can't be read ({why.strerror})"
-        said = COUNT.fullmatch(first.strip())
+            whole = []
+            self.unsure = "" if why.errno in ABSENT else "can't be read (%s)" % why.strerror
+        said, self.beside = COUNT.fullmatch(b"".join(whole[:1]).strip()), whole[1:]
         self.unsure = "" if said else self.unsure
         self.saved = int(said[0]) if said else self.count
         if self.saved != self.count or not said:
             self.beside = []  # it is of another text
 
-    def lost(self) -> int:
+    def lost(self):
         """How many lines were saved that are not there."""
         return max(self.saved - self.count, 0)
 
-    def places(self) -> dict:
+    def places(self):
         """By number of a line from where it was recorded; of two the first counts."""
         found = [place.groups() for place in map(PLACE.fullmatch, self.beside) if place]
         return dict(reversed(found))
 
 
-def beside_trace(logs: list, lines: list) -> bytes:
+def beside_trace(logs, lines):
     """What is to stand beside the trace: how many lines there should be, the notes of all logs, and from where the lines were recorded."""
     places = [log.places() for log in logs]
     found = [(number, places[log].get(b"%d" % at)) for number, (_, log, at) in enumerate(lines, 1)]
     notes = list(dict.fromkeys(line for log in logs for line in log.beside if NOTE.fullmatch(line)))[:MOST_NOTES]
-    marks = [*notes, MERGED_MARK] + [LOG_MARK] * any(LOG_MARK in log.beside for log in logs)
+    marks = notes + [MERGED_MARK] + [LOG_MARK] * any(LOG_MARK in log.beside for log in logs)
     told = [b"%d %b" % one for one in found if one[0] > HEAD and one[1]]
-    return b"".join(line + b"\n" for line in [b"%d" % (len(lines) + sum(log.lost() for log in logs)), *marks, *told])
+    return b"".join(line + b"\n" for line in [b"%d" % (len(lines) + sum(log.lost() for log in logs))] + marks + told)
 
 
-def content(path: str) -> bytes:
+def content(path):
     """The bytes of a regular file; a pipe or a device might never end."""
     descriptor = os.open(path, os.O_RDONLY | os.O_NONBLOCK)
     with open(descriptor, "rb", closefd=True) as file:
         about = os.fstat(descriptor)
         if not stat.S_ISREG(about.st_mode) or about.st_size > MOST_BYTES:
-            raise OSError(0, "it is no regular file" if not stat.S_ISREG(about.st_mode) else f"it has more than {MOST_BYTES:,} bytes")
+            raise OSError(0, "it is no regular file" if not stat.S_ISREG(about.st_mode) else "it has more than {:,} bytes".format(MOST_BYTES))
         return file.read()
 
 
-def read(path: str) -> str:
+def read(path):
     """The text of a log; where there is none, the program ends."""
     try:
         return content(path).decode("ascii")
     except OSError as why:
-        fail(2, f"cannot read {path}: {why.strerror}")
+        fail(2, "cannot read %s: %s" % (path, why.strerror))
     except UnicodeDecodeError:
-        fail(1, f"{path} is no text of a recorder: it is not ASCII")
+        fail(1, "%s is no text of a recorder: it is not ASCII" % path)
 
 
-def shown(text: str) -> str:
+def shown(text):
     """A name or a log's text for a message: what can't be printed stands as `\\x1b` and the like. So does the first letter of what CI
     would read as a command of its own."""
-    told = "".join(letter if letter.isprintable() else f"\\x{ord(letter) - 0xdc00:02x}" if "\udc80" <= letter <= "\udcff" else ascii(letter)[1:-1]
+    told = "".join(letter if letter.isprintable() else "\\x%02x" % (ord(letter) - 0xdc00) if "\udc80" <= letter <= "\udcff" else ascii(letter)[1:-1]
                    for letter in text)
     told = re.sub(r"##(?=(?:vso)?\[)", r"\\x23#", told)  # which CI reads anywhere in a line
     at = len(told) - len(told.lstrip())
-    return f"{told[:at]}\\x{ord(told[at]):02x}{told[at + 1:]}" if told[at:at + 2] in ("::", "##") else told
+    return "%s\\x%02x%s" % (told[:at], ord(told[at]), told[at + 1:]) if told[at:at + 2] in ("::", "##") else told
 
 
 class Parser(argparse.ArgumentParser):
     """A parser that shows a wrong word as a name is shown."""
 
-    def error(self, message: str) -> None:
+    def error(self, message):
         super().error(shown(message))
 
 
-def say(words: str) -> None:
+def say(words):
     try:
-        print(f"merge.py: {shown(words)}", file=sys.stderr, flush=True)
+        sys.stderr.write("merge.py: %s\n" % shown(words))
+        sys.stderr.flush()
     except OSError:  # nobody can be told
         os.dup2(os.open(os.devnull, os.O_WRONLY), sys.stderr.fileno())
 
 
-def fail(status: int, words: str) -> None:
+def fail(status, words):
     say(words)
     sys.exit(status)
 
 
-def write(path: str, content: bytes) -> None:
+def write(path, content):
     try:
         if os.path.exists(path) and not os.path.isfile(path):  # a pipe, say
             Path(path).write_bytes(content)
         else:
             write_whole(os.path.realpath(path), content)
     except OSError as why:
-        fail(2, f"cannot write {path}: {why.strerror}")
+        fail(2, "cannot write %s: %s" % (path, why.strerror))
 
 
-def write_whole(path: str, content: bytes) -> None:
+def write_whole(path, content):
     """Writes a file that appears whole or not at all."""
     mode = stat.S_IMODE(os.stat(path).st_mode) if os.path.exists(path) else None
     if mode is not None and not os.access(path, os.W_OK):
         raise PermissionError(13, "Permission denied")
-    beside = os.path.join(os.path.dirname(path), f".merge-{os.getpid()}")
+    beside = os.path.join(os.path.dirname(path), ".merge-%d" % os.getpid())
     try:
         Path(beside).write_bytes(content)
         if mode is not None:
@@ -248,7 +249,7 @@ def write_whole(path: str, content: bytes) -> None:
         raise
 
 
-def write_out(text: str) -> None:
+def write_out(text):
     """Writes the trace on standard output."""
     try:
         sys.stdout.write(text)
@@ -257,23 +258,23 @@ def write_out(text: str) -> None:
         os.dup2(os.open(os.devnull, os.O_WRONLY), sys.stdout.fileno())
         if isinstance(why, BrokenPipeError):  # the reader has enough
             sys.exit(2)
-        fail(2, f"cannot write: {why.strerror}")
+        fail(2, "cannot write: %s" % why.strerror)
 
 
-def keep_apart(output: str, logs: list) -> None:
+def keep_apart(output, logs):
     """Ends the program where a file that is to be written is one of those that are read."""
     for written in output, output + SIDE:
         for log in logs:
-            for path, what in (log, "one of the logs"), (log + SIDE, f"what stands beside {log}"):
+            for path, what in (log, "one of the logs"), (log + SIDE, "what stands beside %s" % log):
                 if os.path.exists(written) and os.path.exists(path) and os.path.samefile(written, path):
-                    fail(2, f"cannot write {written}: it is {what}")
+                    fail(2, "cannot write %s: it is %s" % (written, what))
 
 
-def be_stopped(stop: int, _: object) -> None:
+def be_stopped(stop, _):
     raise Stopped(stop)
 
 
-def main() -> None:
+def main():
     for stop in signal.SIGINT, signal.SIGTERM, signal.SIGHUP:
         if signal.getsignal(stop) != signal.SIG_IGN:
             signal.signal(stop, be_stopped)
@@ -295,10 +296,10 @@ def main() -> None:
         keep_apart(asked.output, paths)
     for log in logs:
         if log.unsure:
-            say(f"warning: {log.path}{SIDE} {log.unsure}, so nothing says whether {log.path} is whole")
+            say("warning: %s%s %s, so nothing says whether %s is whole" % (log.path, SIDE, log.unsure, log.path))
         if log.lost():
-            say(f"warning: {log.path} may have been cut at a line's end: it has {log.count} lines, and by {log.path}{SIDE} it was saved "
-                f"with {log.saved}")
+            say("warning: %s may have been cut at a line's end: it has %d lines, and by %s%s it was saved with %d"
+                % (log.path, log.count, log.path, SIDE, log.saved))
     try:
         lines = lines_of([log.text for log in logs], paths)
     except Unmerged as why:

@@ -7,10 +7,12 @@ anything else it leaves alone, and ends. It prints the first explanation whole, 
 it, and writes `annotations.json` for GitLab. It ends with the status of domepeeler-judge-many: 0 where all are accepted, 1 where the
 editor failed, 2 where the recordings or the setting are at fault. Words behind the folder are options for domepeeler-judge-many; with
 `--weak`, of an editor that promises the weak list specification alone, recordings pass where that holds."""
+from __future__ import print_function
+
 import os
 import sys
 
-NEEDS = f"judge_recordings: this needs Python {3.9} or later"  # one that is too old to read this file shows this line
+# All of this file is in words that Python 2.7 can read, so that an older Python says which one is needed, and not that it can't read this.
 
 
 def end(*fault):
@@ -22,7 +24,7 @@ def end(*fault):
 if __name__ == "__main__":
     sys.excepthook = end
     if sys.version_info < (3, 9):
-        sys.stderr.write("%s, and is run by %d.%d\n" % (NEEDS, sys.version_info[0], sys.version_info[1]))
+        sys.stderr.write("judge_recordings: this needs Python 3.9 or later, and is run by %d.%d\n" % sys.version_info[:2])
         sys.exit(2)
 
 import json
@@ -68,11 +70,11 @@ def ended(*words):
                                     errors="surrogateescape")
             BEGUN.add(tool)
     except OSError as error:
-        raise Failed(f"{words[0]} can't be run: {error.strerror}. Is Domepeeler installed?") from None
-    printed = tool.communicate()
+        raise Failed("%s can't be run: %s. Is Domepeeler installed?" % (words[0], error.strerror))
+    out, err = tool.communicate()
     with LOCK:
         BEGUN.discard(tool)
-    return subprocess.CompletedProcess(words, tool.returncode, *printed)
+    return subprocess.CompletedProcess(words, tool.returncode, out, err)
 
 
 def end_tools(pool):
@@ -88,31 +90,31 @@ def end_tools(pool):
 
 def escaped(text, marks):
     """As GitHub wants it in an annotation: these marks as a percent sign and two digits."""
-    return "".join(f"%{ord(mark):02X}" if mark in marks else mark for mark in text)
+    return "".join("%%%02X" % ord(mark) if mark in marks else mark for mark in text)
 
 
 def annotate(file, title, told):
     """An error that GitHub shows with the file, on the page of the run."""
-    print(f"::error file={escaped(file, IN_PROPERTIES)},title={escaped(title, IN_PROPERTIES)}::{escaped(told, IN_MESSAGES)}")
+    print("::error file=%s,title=%s::%s" % (escaped(file, IN_PROPERTIES), escaped(title, IN_PROPERTIES), escaped(told, IN_MESSAGES)))
 
 
 def explain(number, row, goal):
     """The words for a failure, and its verdict as it is told."""
-    page, small = JUDGED / f"{number}.html", JUDGED / f"{number}.trace"
-    done = ended("domepeeler-explain", *goal, "--html", page, "--small", small, "--", row["file"])
+    page, small = JUDGED / ("%d.html" % number), JUDGED / ("%d.trace" % number)
+    done = ended(*["domepeeler-explain"] + goal + ["--html", page, "--small", small, "--", row["file"]])
     told = (done.stdout + done.stderr).strip()
     verdict = WEAK_ALONE if row.get("weak_alone") else row["verdict"]
     if verdict in ("accepted", WEAK_ALONE):  # but unequal in the end
-        told = f"{verdict}, but unequal in the end: {' '.join(row['warnings'][:1])}\n{told.partition(chr(10))[2]}"
+        told = "%s, but unequal in the end: %s\n%s" % (verdict, " ".join(row["warnings"][:1]), told.partition("\n")[2])
     if verdict == "failed":  # what else is said of it counts for nothing
-        told = f"{row['error']}\n{told}"
-    return told, f"{row['shown']}: {verdict}"
+        told = "%s\n%s" % (row["error"], told)
+    return told, "%s: %s" % (row["shown"], verdict)
 
 
 def link(number, name):
     """What GitLab shows of a failure: a link to its page."""
-    page, job = JUDGED / f"{number}.html", os.environ.get("CI_JOB_URL", "")
-    return {"external_link": {"label": name, "url": f"{job}/artifacts/file/{page}" if page.exists() else job}}
+    page, job = JUDGED / ("%d.html" % number), os.environ.get("CI_JOB_URL", "")
+    return {"external_link": {"label": name, "url": "%s/artifacts/file/%s" % (job, page) if page.exists() else job}}
 
 
 def alike(number, row):
@@ -128,13 +130,14 @@ def print_explanations(rows, told):
     for place, same in enumerate(groups.values()):
         (row, words), more = same[0], len(same) - 1
         first = words if place == 0 else words.split("\n")[0]
-        print(f"{row['shown']}: {first}" + (f"\n  and {more} more that look{'s' * (more == 1)} alike: {same[1][0]['shown']}"
-                                                    f"{' and others' * (more > 1)}" if more else "") + "\n", flush=True)
+        others = "\n  and %d more that look%s alike: %s%s" % (
+            more, "s" * (more == 1), same[1][0]["shown"], " and others" * (more > 1)) if more else ""
+        print("%s: %s%s\n" % (row["shown"], first, others), flush=True)
 
 
 def say(words):
     try:
-        print(f"judge_recordings: {words}", file=sys.stderr)
+        print("judge_recordings: %s" % words, file=sys.stderr)
     except OSError:  # nobody can be told
         pass
 
@@ -143,11 +146,12 @@ def prepare():
     """Makes the folder, or takes away what an earlier run has left in it."""
     JUDGED.mkdir(exist_ok=True)
     made = JUDGED / MADE
-    own = [MADE, *made.read_text().splitlines()] if made.is_file() else []
+    own = [MADE] + made.read_text().splitlines() if made.is_file() else []
     others = sorted(set(os.listdir(JUDGED)) - set(own))
     if others:
         more = " and others" if len(others) > MOST_LEFT else ""
-        raise Failed(f"the folder {JUDGED} holds what this script did not write ({', '.join(repr(name)[1:-1] for name in others[:MOST_LEFT])}{more}): move it away")
+        names = ", ".join(repr(name)[1:-1] for name in others[:MOST_LEFT])
+        raise Failed("the folder %s holds what this script did not write (%s%s): move it away" % (JUDGED, names, more))
     for name in own[1:]:
         if "/" not in name and (JUDGED / name).is_file():
             (JUDGED / name).unlink()
@@ -156,17 +160,18 @@ def prepare():
 
 def list_made(count):
     """Writes the list of what a run makes that finds so many failures."""
-    made = [JUNIT, ANNOTATIONS, f"{ANNOTATIONS}.part", *(f"{number}.{end}" for number in range(1, count + 1) for end in OF_EACH)]
-    (JUDGED / f"{MADE}.part").write_text("".join(f"{name}\n" for name in [f"{MADE}.part", *made]))
-    os.replace(JUDGED / f"{MADE}.part", JUDGED / MADE)
+    part = MADE + ".part"
+    made = [part, JUNIT, ANNOTATIONS, ANNOTATIONS + ".part"] + ["%d.%s" % (number, end) for number in range(1, count + 1) for end in OF_EACH]
+    (JUDGED / part).write_text("".join(name + "\n" for name in made))
+    os.replace(JUDGED / part, JUDGED / MADE)
 
 
 def check_agrees(status, rows):
     """The tool's status is believed where it lists what fails, or nothing, and has written its file."""
     if status not in (0, 1, 2) or status != 2 and (status == 1) != bool(rows):
-        raise Failed(f"domepeeler-judge-many ended with status {status}, and listed {len(rows)} recordings")
+        raise Failed("domepeeler-judge-many ended with status %d, and listed %d recordings" % (status, len(rows)))
     if status != 2 and not (JUDGED / JUNIT).is_file():
-        raise Failed(f"domepeeler-judge-many ended with status {status}, and wrote no {JUDGED / JUNIT}")
+        raise Failed("domepeeler-judge-many ended with status %d, and wrote no %s" % (status, JUDGED / JUNIT))
 
 
 def judge(folder, options):
@@ -179,37 +184,40 @@ def judge(folder, options):
 
 def judge_by(pool, folder, options):
     if JUDGED.resolve() == Path(folder).resolve():
-        raise Failed(f"{JUDGED} is where the pages go, so its traces are not judged")
+        raise Failed("%s is where the pages go, so its traces are not judged" % JUDGED)
     prepare()
-    done = pool.submit(ended, "domepeeler-judge-many", "--failing", "--json", "--junit", JUDGED / JUNIT, *options, "--", folder).result()
+    words = ["domepeeler-judge-many", "--failing", "--json", "--junit", JUDGED / JUNIT] + options + ["--", folder]
+    done = pool.submit(ended, *words).result()
     try:
         rows = [json.loads(line) for line in done.stdout.splitlines()]
     except ValueError:
         printed = repr(done.stdout[:MOST_SHOWN])[1:-1]
-        raise Failed(f"domepeeler-judge-many ended with status {done.returncode}, and printed no recordings: {printed}") from None
+        raise Failed("domepeeler-judge-many ended with status %d, and printed no recordings: %s" % (done.returncode, printed))
     rows = [row for row in rows if JUDGED.resolve() not in Path(row["file"]).resolve().parents]
     goal = [WEAK] if WEAK in options else []
     if rows and done.returncode in (0, 1, 2) and not (JUDGED / JUNIT).is_file():
         print(done.stderr, end="", file=sys.stderr)
-        raise Failed(f"domepeeler-judge-many ended with status {done.returncode}, and wrote no {JUDGED / JUNIT}")
+        raise Failed("domepeeler-judge-many ended with status %d, and wrote no %s" % (done.returncode, JUDGED / JUNIT))
     list_made(len(rows))
-    told = list(pool.map(lambda numbered: explain(*numbered, goal), enumerate(rows, 1)))
+    told = list(pool.map(lambda numbered: explain(numbered[0], numbered[1], goal), enumerate(rows, 1)))
     for row, (words, name) in zip(rows, told) if os.environ.get("GITHUB_ACTIONS") else ():
         annotate(row["shown"], name, words.split("\n")[0])
     print_explanations(rows, [words for words, _ in told])
     print(done.stderr, end="", file=sys.stderr)
     if os.environ.get("CI_JOB_URL"):
         links = [link(number, name) for number, (_, name) in enumerate(told, 1)]
-        (JUDGED / f"{ANNOTATIONS}.part").write_text(json.dumps({"recordings that are not accepted": links}))
-        os.replace(JUDGED / f"{ANNOTATIONS}.part", JUDGED / ANNOTATIONS)
+        part = JUDGED / (ANNOTATIONS + ".part")
+        part.write_text(json.dumps({"recordings that are not accepted": links}))
+        os.replace(part, JUDGED / ANNOTATIONS)
     check_agrees(done.returncode, rows)
     if done.returncode == 0:
-        print(f"all recordings below {repr(folder)[1:-1]} {'keep the weak list specification' if goal else 'are accepted'}")
+        print("all recordings below %s %s" % (repr(folder)[1:-1], "keep the weak list specification" if goal else "are accepted"))
     if rows:
-        made = [f"{JUDGED}/{number}.html" for number in range(1, len(rows) + 1) if (JUDGED / f"{number}.html").exists()]
-        first = "of the first" if made[:1] == [f"{JUDGED}/1.html"] else "of the first that has one"
-        page = f", and {made[0]} is the page {first}" if made else ""
-        print(f"{len(rows)} {'failed' if goal else 'not accepted'}: {JUDGED}/junit.xml has them all{page}")
+        pages = [JUDGED / ("%d.html" % number) for number in range(1, len(rows) + 1)]
+        made = [page for page in pages if page.exists()]
+        first = "of the first" if made[:1] == pages[:1] else "of the first that has one"
+        page = ", and %s is the page %s" % (made[0], first) if made else ""
+        print("%d %s: %s/junit.xml has them all%s" % (len(rows), "failed" if goal else "not accepted", JUDGED, page))
     return done.returncode
 
 
@@ -233,13 +241,13 @@ def main():
     except BrokenPipeError:  # the reader has enough
         os.dup2(os.open(os.devnull, os.O_WRONLY), sys.stdout.fileno())
     except OSError as error:
-        say(f"cannot write {error.filename or 'what is told'}: {error.strerror}")
+        say("cannot write %s: %s" % (error.filename or "what is told", error.strerror))
         os.dup2(os.open(os.devnull, os.O_WRONLY), sys.stdout.fileno())
     except Stopped as stopped:
         signal.signal(stopped.args[0], signal.SIG_DFL)
         os.kill(os.getpid(), stopped.args[0])
     except Exception:  # which nobody has thought of: no verdict
-        say(f"a fault of this script, so nothing is judged:\n{traceback.format_exc()}")
+        say("a fault of this script, so nothing is judged:\n%s" % traceback.format_exc())
     return 2
 
 

@@ -12,7 +12,7 @@ from pathlib import Path
 
 HERE = Path(__file__).parent
 sys.path.insert(0, str(HERE.parent / "engines"))
-from record import DEBIAN_CRATES, install
+from random_sessions import DEBIAN_CRATES, install
 
 CARGO = DEBIAN_CRATES + """
 mkdir -p "$OUT/src"

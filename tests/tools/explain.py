@@ -1495,15 +1495,15 @@ def scripts_end(tally: Tally) -> None:
     """What nobody has thought of ends the scripts beside the tools with 2, since 1 is said of logs and Python's own."""
     with tempfile.TemporaryDirectory() as copy:
         shutil.copytree(ROOT / "recorders", copy, dirs_exist_ok=True)
-        for path, old, words in (("merge.py", "    paths = [path", ["log"]),
-                                 ("engines/record.py", "    engine, seen, unanswered = ", ["list_crdt", "PROGRAM"])):
-            script = Path(copy, path)
-            script.write_text(script.read_text().replace(old, f"    raise ValueError('not thought of')\n{old}").replace(
+        for path, module, old, words in (("merge.py", "merge.py", "    paths = [path", ["log"]),
+                                         ("engines/record.py", "engines/random_sessions.py", "    engine, seen, unanswered = ", ["list_crdt", "PROGRAM"])):
+            changed = Path(copy, module)
+            changed.write_text(changed.read_text().replace(old, f"    raise ValueError('not thought of')\n{old}").replace(
                 "    check_is_domepeeler(words.program)\n", ""))
-            done = subprocess.run([sys.executable, script, *words], capture_output=True, text=True)
+            done = subprocess.run([sys.executable, Path(copy, path), *words], capture_output=True, text=True)
             tally.check(f"not thought of: {path}", done.returncode == 2 and done.stderr.endswith("ValueError: not thought of\n") and not done.stdout, done)
-        for path, module in (("recorders/merge.py", "argparse"), ("recorders/engines/record.py", "sessions"), ("examples/ci/judge_recordings.py", "json"),
-                             ("tools/draw_cycle.py", "json"), ("tools/package", "tarfile")):
+        for path, module in (("recorders/merge.py", "argparse"), ("recorders/engines/record.py", "random_sessions"),
+                             ("examples/ci/judge_recordings.py", "json"), ("tools/draw_cycle.py", "json"), ("tools/package", "making_packages")):
             shutil.copy(ROOT / path, copy)
             Path(copy, f"{module}.py").write_text("raise ValueError('not thought of')\n")
             done = subprocess.run([sys.executable, Path(copy, Path(path).name), "x", "y"], capture_output=True, text=True, stdin=subprocess.DEVNULL)

@@ -25,6 +25,7 @@ sys.path.insert(0, str(ROOT / "tests"))
 from reference import verdicts  # noqa: E402
 from shared.forked import Forked  # noqa: E402
 from shared.measured import used, used_itself  # noqa: E402
+from shared.old_python import NEWER, OLD, newer_parts  # noqa: E402
 from shared.program import Ended, Tally, is_running, need, program_of, run  # noqa: E402
 from shared.sessions import session  # noqa: E402
 from shared.traces import two_rings  # noqa: E402
@@ -1228,7 +1229,7 @@ def unknown_faults(tally: Tally, program: str, folder: str) -> None:
 SCRIPTS = {"tools/judge_many": "domepeeler-judge-many", "tools/explain": "domepeeler-explain", "tools/draw_cycle.py": "draw_cycle.py",
            "recorders/merge.py": "merge.py", "recorders/engines/record.py": "record.py",
            "examples/ci/judge_recordings.py": "judge_recordings", "tools/package": "package"}
-IMPORTED = ["tools/explaining/*.py", "recorders/*.py", "recorders/engines/*.py", "recorders/python/domepeeler/*.py"]
+IMPORTED = ["tools/explaining/*.py", "tools/making_packages.py", "recorders/*.py", "recorders/engines/*.py", "recorders/python/domepeeler/*.py"]
 # Commands that the oldest Python that is named runs as this one does.
 MAIN_WAYS = [
     "{tools}/judge_many --json --junit junit.xml traces",
@@ -1260,20 +1261,51 @@ recording.save("session.trace")
 
 def pythons_here() -> dict:
     """Other versions of Python on this machine, by their numbers."""
-    paths = [shutil.which(f"python3.{number}") for number in range(6, 10)]
-    paths += sorted(map(str, Path.home().glob(".pyenv/versions/3.*/bin/python3")))
+    paths = [shutil.which(name) for name in ("python2.7", *(f"python3.{number}" for number in range(4, 10)))]
+    paths += sorted(map(str, Path.home().glob(".pyenv/versions/*/bin/python")))
     found = {}
     for path in filter(None, paths):
-        done = subprocess.run([path, "-c", "import sys; print(*sys.version_info[:2])"], capture_output=True, text=True)
+        done = subprocess.run([path, "-c", "import sys; print('%d %d' % sys.version_info[:2])"], capture_output=True, text=True)
         if done.returncode == 0:
             found[tuple(map(int, done.stdout.split()))] = path
     return found
+
+
+READ_OLD = """
+import json, sys
+for text in json.load(sys.stdin):
+    try:
+        compile(text.encode("utf-8"), "x", "exec")
+        print("reads")
+    except SyntaxError:
+        print("refuses")
+"""
+
+
+def old_syntax(tally: Tally, old: str) -> None:
+    """The scripts have nothing that a Python from 2.7 on can't read: it says which one is needed, and no syntax error. What looks for such
+    parts finds each; where Python 2.7 is on the machine, it refuses them too, and reads what looks alike."""
+    for what, text in NEWER.items():
+        tally.check(f"old syntax: {what}", [part for part, _ in newer_parts(text)] == [what], newer_parts(text))
+    for text in OLD:
+        tally.check(f"old syntax: {text!r}", not newer_parts(text), newer_parts(text))
+    for script in SCRIPTS:
+        found = newer_parts((ROOT / script).read_text())
+        tally.check(f"old syntax: {script}", not found, found)
+    if old is None:
+        print("Python 2.7 is not on this machine: the syntax of what it should read is looked at")
+        return
+    texts = [*list(NEWER.values())[:-2], *OLD]
+    said = subprocess.run([old, "-c", READ_OLD], input=json.dumps(texts), capture_output=True, text=True)
+    wanted = ["refuses"] * (len(NEWER) - 2) + ["reads"] * len(OLD)
+    tally.check("old syntax: as Python 2.7 reads it", said.stdout.split() == wanted, list(zip(texts, said.stdout.split(), wanted)))
 
 
 def pythons(tally: Tally, program: str, folder: str) -> None:
     """On Python 3.9 all runs as it does here; an older one is told by one line which one is needed. Where the machine has none, the syntax
     and the annotations are looked at."""
     here = pythons_here()
+    old_syntax(tally, here.get((2, 7)))
     for version, path in sorted(here.items()):
         for script, name in SCRIPTS.items() if version < (3, 9) else ():
             got = run(path, [str(ROOT / script), "x"])
@@ -1281,14 +1313,6 @@ def pythons(tally: Tally, program: str, folder: str) -> None:
             tally.same(f"Python {version[0]}.{version[1]}: {script}", got, Ended(2, b"", told.encode()))
     names = [path for pattern in [*SCRIPTS, *IMPORTED] for path in sorted(ROOT.glob(pattern))]
     tally.check("Python 3.9: files", len(names) > 35, names)
-    for script in SCRIPTS:
-        lines = (ROOT / script).read_text().splitlines()
-        try:
-            ast.parse("\n".join(lines), feature_version=(3, 5))
-        except SyntaxError as why:
-            newer = next(place for place, line in enumerate(lines) if re.search(r"\bf\"|\) ->|^ *(def|class) |^@", line))
-            tally.check(f"Python 3.5 and older: {script}", why.lineno == newer + 1 and ": this needs Python {3.9} or later\"" in lines[newer] and
-                        len(lines[newer]) < 120, (why, lines[newer]))
     for path in names:
         tree = ast.parse(path.read_text(), feature_version=(3, 9))
         annotated = [note for node in ast.walk(tree) for note in (getattr(node, "annotation", None), getattr(node, "returns", None))

@@ -17,7 +17,7 @@ ROOT = Path(__file__).resolve().parents[2]
 sys.path.insert(0, str(ROOT / "tests"))
 from shared.program import Ended, Tally, need, program_of, run  # noqa: E402
 
-PACKAGE = str(ROOT / "tools" / "package")
+PACKAGE, MODULE = str(ROOT / "tools" / "package"), str(ROOT / "tools" / "making_packages.py")
 KIT = "made-up-kit-7 logic 0123456789abcdef"
 TRACE = b"trace 1\nreplicas 3\n0 ins a 0 : a\n1 recv 0 1\n1 ins b 1 : a b\n2 recv 1 1\n2 read : b\n"  # the man page's example
 REPORT = b"replicas 3 operations 3 inserts 2\ncontents 2.1\nstrong no\nweak no\n"
@@ -280,7 +280,7 @@ def faults(tally: Tally, program: str, folder: str) -> None:
     tally.check("fault: nothing is made", os.listdir(folder) == ["file"], os.listdir(folder))
     write = ("import runpy, sys; from pathlib import Path; sys.path.append(str(Path(sys.argv[1]).parent)); "
              "runpy.run_path(sys.argv[1])['write'](Path(sys.argv[2]), bytes(9999))")
-    done = subprocess.run(["sh", "-c", 'ulimit -f 1; trap "" XFSZ; exec "$@"', "sh", sys.executable, "-c", write, PACKAGE, f"{folder}/file"],
+    done = subprocess.run(["sh", "-c", 'ulimit -f 1; trap "" XFSZ; exec "$@"', "sh", sys.executable, "-c", write, MODULE, f"{folder}/file"],
                           capture_output=True, text=True)
     tally.check("fault: what can't be written whole is not written", done.stderr.endswith(f"File too large: '{folder}/file'\n") and
                 os.listdir(folder) == ["file"] and Path(folder, "file").read_text() == "no program\n", (done, os.listdir(folder)))
