@@ -573,22 +573,30 @@ def unequal(tally: Tally, program: str, folder: str) -> None:
 
 
 def known_as_cut(tally: Tally, program: str, folder: str) -> None:
-    """An accepted trace that has fewer lines than were saved is no pass: it is failed, an error in JUnit's file, and said first, behind
-    however many warnings. One that fails already has its verdict, and a warning."""
+    """A trace that has fewer lines than were saved is failed, whatever these show: status 2, an error in JUnit's file, and said first, before
+    however many warnings. Of one that is wrong itself the error has the verdict on what is left, and JUnit's file what explains it."""
     write(folder, {"zz.trace": "0 ins a 0 : a|0 read : a", "bad.trace": "0 ins a 0 : a|0 read :",
                    **{f"apart{i}.trace": "0 ins a 0 : a|1 ins b 0 : b" for i in range(8)}})
     for name in "zz", "bad":
         Path(folder, f"{name}.trace.lines").write_text("9\n")
     path = f"{folder}/junit.xml"
     got = judge(program, ["--junit", path, folder])
-    lines, rows = got.err.decode().splitlines(), [cells(line)[:2] for line in got.out.decode().splitlines()]
-    told = f"{folder}/zz.trace: the trace may have been cut at a line's end: it has 4 lines, and by {folder}/zz.trace.lines it was saved with 9"
-    tally.check("cut: status 2, failed, and said first", got.status == 2 and lines[0] == f"domepeeler-judge-many: {told}"
-                and (f"{folder}/zz.trace", "failed") in rows and got.out.decode().splitlines()[-2] == "10 traces: 8 accepted, 1 contents, 1 failed", got)
-    tally.check("cut: of one that fails, the first warning", (f"{folder}/bad.trace", "contents") in rows and "more warning" in lines[-1]
-                and lines[1].startswith(f"domepeeler-judge-many: {folder}/bad.trace: warning: the trace may have been cut"), got)
-    errors = [(case.get("name"), case[0].get("type")) for case in xml.parse(path).getroot().iter("testcase") if case.find("error") is not None]
-    tally.check("cut: an error in JUnit's file", errors == [("zz.trace", "failed")], errors)
+    lines, rows = got.err.decode().splitlines(), [cells(line)[:4] for line in got.out.decode().splitlines()]
+    told, left = (f"{folder}/{name}.trace: the trace may have been cut at a line's end: it has 4 lines, and by {folder}/{name}.trace.lines it was "
+                  f"saved with 9{shows}" for name, shows in (("zz", ""), ("bad", "; the verdict on the lines that are left is `contents 0.2`")))
+    tally.check("cut: status 2, failed, and said first", got.status == 2 and lines[:2] == [f"domepeeler-judge-many: {one}" for one in (left, told)]
+                and "more warning" in lines[-1] and got.out.decode().splitlines()[-2] == "10 traces: 8 accepted, 2 failed", got)
+    tally.check("cut: the table has no verdict of them", rows[1:3] == [(f"{folder}/{name}.trace", "failed", "-", "-") for name in ("bad", "zz")], rows)
+    errors = {case.get("name"): case[0] for case in xml.parse(path).getroot().iter("testcase") if case.find("error") is not None}
+    tally.check("cut: an error in JUnit's file", {(name, error.get("type"), error.text) for name, error in errors.items() if name == "zz.trace"} == {
+        ("zz.trace", "failed", told.partition(": ")[2])} and len(errors) == 2, errors)
+    message, text = errors["bad.trace"].get("message"), errors["bad.trace"].text
+    explained = run(EXPLAIN, ["--program", program, f"{folder}/bad.trace"]).out.decode()
+    tally.check("cut: JUnit's error of one that is wrong itself", errors["bad.trace"].get("type") == "failed" and message == left.partition(": ")[2] and
+                text == f"{message}\n{explained}" and explained.startswith("contents 0.2: "), text)
+    alone = judge(program, [f"{folder}/bad.trace"])
+    tally.check("cut: status 2 of one that is wrong itself, alone", alone.status == 2 and alone.err.decode() == f"domepeeler-judge-many: {left}\n" and
+                alone.out.endswith(b"\n1 trace: 1 failed\n"), alone)
     for name, said in ("none", ""), ("word", "many\n"):
         write(folder, {f"{name}.trace": "0 ins a 0 : a"})
         Path(folder, f"{name}.trace.lines").write_text(said)
@@ -599,8 +607,10 @@ def known_as_cut(tally: Tally, program: str, folder: str) -> None:
     tally.check("cut: always said that nobody knows, or nothing was recorded", lines[2:5] == [
         f"domepeeler-judge-many: {folder}/{name}.trace: warning: {told_of}" for name, told_of in zip(("none", "nothing", "word"), (unknown[0], nothing, unknown[1]))]
                 and "more warning" in lines[-1], lines)
-    row = json.loads(judge(program, ["--json", f"{folder}/zz.trace"]).out)
-    tally.check("cut: its object", row["verdict"] == "failed" and row["error"] == told.partition(": ")[2] and row["report"]["verdict"] == "accepted", row)
+    for name, error, verdict in ("zz", told, "accepted"), ("bad", left, "contents"):
+        row = json.loads(judge(program, ["--json", f"{folder}/{name}.trace"]).out)
+        tally.check(f"cut: its object, {name}", row["verdict"] == "failed" and row["error"] == error.partition(": ")[2] and "fails_at" not in row
+                    and row["report"]["verdict"] == verdict, row)
 
 
 def grouped(tally: Tally, program: str, folder: str) -> None:
@@ -1446,12 +1456,14 @@ def script_of_ci(tally: Tally, program: str, folder: str) -> None:
     done = in_ci(str(place), path, f"{script} apart --unequal", {"GITHUB_ACTIONS": "true"})
     tally.check("script of CI: unequal, where that fails", done.returncode == 1 and done.stdout.startswith(
         "::error file=apart/a.trace,title=apart/a.trace%3A accepted::accepted, but unequal in the end: in the end replicas 0 and 1 show different lists\n"), done)
-    write(str(place), {"cut/a.trace": "0 ins a 0 : a"})
-    Path(place, "cut", "a.trace.lines").write_text("9\n")
-    done = in_ci(str(place), path, f"{script} cut", {"GITHUB_ACTIONS": "true"})
-    told = "the trace may have been cut at a line's end: it has 3 lines, and by cut/a.trace.lines it was saved with 9"
-    tally.check("script of CI: a trace that is known to be cut", done.returncode == 2 and done.stdout.startswith(
-        f"::error file=cut/a.trace,title=cut/a.trace%3A failed::{told}\ncut/a.trace: {told}\n"), done)
+    for entries, left in ("0 ins a 0 : a", ""), ("0 read : a", "; the verdict on the lines that are left is `contents 0.1`"):
+        write(str(place), {"cut/a.trace": entries})
+        Path(place, "cut", "a.trace.lines").write_text("9\n")
+        done = in_ci(str(place), path, f"{script} cut", {"GITHUB_ACTIONS": "true"})
+        told = f"the trace may have been cut at a line's end: it has 3 lines, and by cut/a.trace.lines it was saved with 9{left}"
+        tally.check(f"script of CI: a trace that is known to be cut{left}", done.returncode == 2 and done.stdout.startswith(
+            f"::error file=cut/a.trace,title=cut/a.trace%3A failed::{told}\ncut/a.trace: {told}\n") and (
+                "\ncontents 0.1: " if left else "\naccepted, ") in done.stdout, done)
 
 
 def script_ended(tally: Tally, place: str, path: str, script: str, folder: str) -> None:
@@ -1611,6 +1623,9 @@ def weak_junit(tally: Tally, program: str, folder: str) -> None:
     suite = xml.parse(path).getroot().find("testsuite")
     tally.check("weak: a cut trace is no pass", got.status == 2 and b"1 weak alone, 1 refused, 1 contents, 1 failed" in got.out and
                 f"{folder}/alone.trace: the trace may have been cut at a line's end".encode() in got.err and suite.get("errors") == "1", got)
+    got = judge(program, ["--junit", path, f"{folder}/alone.trace"])
+    tally.check("weak: a cut trace where strong is wanted", got.status == 2 and got.out.endswith(b"\n1 trace: 1 failed\n") and
+                got.err.endswith(b"saved with 40; the verdict on the lines that are left is `refused 3`\n"), got)
 
 
 def weak_in_ci(tally: Tally, program: str, folder: str) -> None:

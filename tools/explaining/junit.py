@@ -14,15 +14,16 @@ NOT_IN_XML = re.compile("[^\t\n\r\x20-\ud7ff\ue000-\ufffd\U00010000-\U0010ffff]"
 
 def junit_of(rows: list, unequal: bool) -> bytes:
     """A test suite of the rows of `judge_many`, of which failures are explained: a trace that does not pass is a failure, and so are ends
-    that are unequal, where these count; a missing verdict is an error. Warnings of one that passes stand in its output, and that strong
-    doesn't hold."""
+    that are unequal, where these count; a missing verdict is an error, and so is one on a trace that is known to be cut. Warnings of one
+    that passes stand in its output, and that strong doesn't hold."""
     suite = xml.Element("testsuite", name="domepeeler")
     for row in rows:
         folder, name = os.path.split(row.file)
         case = xml.SubElement(suite, "testcase", classname=written(shown(folder) or "."), name=written(shown(name)),
                               file=written(shown(row.file)), time=f"{row.seconds:.3f}")
         if row.verdict in NO_VERDICTS:
-            add_fault(case, "error", row.verdict, "\n  ".join([shown(row.error), *(row.fault or [])]))
+            told = "\n  ".join([shown(row.error), *(row.fault or [])])
+            add_fault(case, "error", row.verdict, f"{told}\n{row.explanation[0]}" if row.explanation else told)
         elif not row.passes:
             add_fault(case, "failure", row.verdict, *row.explanation)
         elif row.unequal and unequal:

@@ -27,7 +27,8 @@ from .warnings import is_first
 NAME = "domepeeler-judge-many"
 ABOUT = "Judges all traces below some folders, several at a time, and lists them: first the one that fails in the fewest lines."
 STATUSES = ("It ends with status 0 where all are accepted, 1 where all can be read and some are not accepted, and 2 where one can't "
-            "be read, or is known to be cut, or none has an entry, or something else fails. With --weak those pass too of which weak holds.")
+            "be read, or is known to be cut, whatever its lines show, or none has an entry, or something else fails. With --weak those pass too "
+            "of which weak holds.")
 MOST_WARNED = 20  # warnings that are printed on standard error
 TRACE = ".trace"  # in any case
 HOLDS = {True: "yes", False: "no", None: "-"}  # None where the report says nothing of it, or there is none
@@ -220,8 +221,8 @@ def print_errors(rows: list) -> None:
 
 
 def print_warnings(rows: list) -> None:
-    """First, and always, that lines are lost, or may be, or that there are none; then where traces end unequal. A trace that is failed since
-    lines are lost is an error before."""
+    """First, and always, that lines may be lost, or that there are none; then where traces end unequal. That lines are lost is an error
+    before."""
     warned = sorted((row for row in rows if row.warnings and not row.error), key=lambda row: not row.unequal)
     told = [(is_first(warning), f"{NAME}: {shown(row.file)}: warning: {warning}") for row in warned for warning in row.warnings]
     first, others = [line for is_one, line in told if is_one], [line for is_one, line in told if not is_one]

@@ -15,7 +15,7 @@ from .programs import NoProgram, is_another, is_of, is_weak_alone, no_report, of
 from .recordings import FIRST_ENTRY, Recording
 from .telling import MOST_STEPS, listed
 from .warnings import Warnings, warnings_of
-from .words import text_of, with_warnings
+from .words import text_of, verdict_of, with_warnings
 
 KINDS = ["accepted", "refused", "contents", "position", "doubled", "unread", "failed"]
 NO_VERDICTS = ["unread", "failed"]
@@ -60,7 +60,7 @@ class Row(NamedTuple):
     place: str | None = None  # of the user's code, from which the last of these lines was recorded
     weak_alone: bool | None = None  # whether it passes since weak holds, which alone is asked for, though strong doesn't
     fault: list | None = None  # what is wrong with a line that does not read
-    explanation: tuple | None = None  # of a failure what `explain` says of it, and its elements, where that is asked for
+    explanation: tuple | None = None  # of what fails what `explain` says of it, and its elements, where that is asked for
 
     @property
     def passes(self) -> bool:
@@ -87,8 +87,8 @@ def failed(file: str, seconds: float, status: int, error: str, lines: int = 0) -
 
 
 def row_of(request: Request, file: str, trace: bytes, side: Side, answer: Answer) -> Row:
-    """The row of a trace that has this file beside it, of which the program answered this. A trace that is known to be cut does not
-    pass."""
+    """The row of a trace that has this file beside it, of which the program answered this. One that is known to be cut is failed, whatever
+    its lines show."""
     seconds, status, printed, error = answer
     lines, report = trace.count(b"\n"), report_in(status, printed)
     if report is None and is_another(status, error):
@@ -105,12 +105,12 @@ def row_of(request: Request, file: str, trace: bytes, side: Side, answer: Answer
     row = Row(file, report["verdict"], report.get("k"), lines, seconds, status, report, "",
               placed_warnings(warnings.all, known) or None, bool(warnings.ends) or None, list(known.notes) or None,
               weak_alone=is_alone or None)
-    if warnings.is_cut and row.passes:
-        return row._replace(verdict="failed", error=warnings.cut[0], unequal=None, weak_alone=None)
-    if row.passes:
-        return row
-    row = placed(row, request, trace, known)
-    return row._replace(explanation=explanation_of(row, request, trace, known)) if request.is_explained else row
+    if not row.passes and request.is_explained:
+        row = row._replace(explanation=explanation_of(row, request, trace, known))
+    if warnings.is_cut:
+        left = "" if row.passes else f"; the verdict on the lines that are left is {verdict_of(report)}"
+        return row._replace(verdict="failed", k=None, error=warnings.cut[0] + left, unequal=None, weak_alone=None)
+    return row if row.passes else placed(row, request, trace, known)
 
 
 def fault_of(error: str, trace: bytes, file: str) -> list:

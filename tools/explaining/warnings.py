@@ -36,8 +36,9 @@ class Warnings(NamedTuple):
 
 
 def is_first(warning: str) -> bool:
-    """Whether a warning says that not all may have been judged, or nothing: however many others there are, such a one is told."""
-    return warning.startswith((CUT, NOTHING)) or warning.endswith(UNKNOWN)
+    """Whether a warning says that not all may have been judged, or nothing: however many others there are, such a one is told. That a trace
+    is known to be cut is no warning but an error."""
+    return warning.startswith(NOTHING) or warning.endswith(UNKNOWN)
 
 
 def warnings_of(verdict: str, trace: bytes, side: Side = NO_SIDE, is_passing: bool = False) -> Warnings:
