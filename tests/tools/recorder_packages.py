@@ -223,6 +223,56 @@ def test_is_over(domepeeler):
     kept[0].read(0, [])
 """
 
+# A fixture of two tests, or of all, which records when it is torn down: behind the first test, and behind the last one's own part.
+WIDER = """
+import pytest
+
+
+@pytest.fixture(scope="{scope}")
+def server():
+    recordings = []
+    yield recordings
+    for recording in recordings:
+        recording.read(0, [])
+
+
+def test_first(domepeeler, server):
+    server.append(domepeeler(1))
+    server[0].insert(0, "a", 0, ["a"])
+
+
+def test_last(domepeeler, server):
+    if {is_last_recorded}:
+        server.append(domepeeler(1))
+        server[1].insert(0, "b", 0, ["b"])
+"""
+# A thread that begins to record when its test has ended, and still does when pytest ends; it records what is right.
+RUNNING = """
+import threading
+import time
+
+ended, recorded = threading.Event(), threading.Event()
+
+
+def record(recording):
+    ended.wait()
+    while True:
+        recording.read(0, ["a"])
+        recorded.set()
+        time.sleep(0.01)
+
+
+def test_begins(domepeeler):
+    recording = domepeeler(1)
+    recording.insert(0, "a", 0, ["a"])
+    threading.Thread(target=record, args=[recording], daemon=True).start()
+
+
+def test_waits():
+    ended.set()
+    assert recorded.wait(60)
+"""
+
 ENDS = {
     "python": '''
 import pytest
@@ -921,6 +971,22 @@ def check_ends_of_pytest(tally: Tally, place: Place, command: list) -> None:
     done = place.run([*command[:-1], "test_later.py"], "python")
     tally.check("pytest: what is recorded after a test has ended fails the run", done.returncode == 1 and "2 passed" in done.stdout and
                 done.stdout.count("ERROR ") == 1 and "ERROR test_later.py::test_goes_on - domepeeler: something was recorded after" in done.stdout, done.stdout)
+    for scope in "module", "session":
+        place.make("python/test_later.py", WIDER.format(scope=scope, is_last_recorded=False))
+        done = place.run([*command[:-1], "test_later.py"], "python")
+        tally.check(f"pytest: what a fixture of scope {scope} records when it is torn down fails the run", done.returncode == 1 and
+                    re.search(r"^2 passed in ", done.stdout, re.MULTILINE) and done.stdout.count("ERROR ") == 1 and
+                    "ERROR test_later.py::test_first - domepeeler: something was recorded after" in done.stdout, done.stdout)
+        place.make("python/test_later.py", WIDER.format(scope=scope, is_last_recorded=True))
+        done = place.run([*command[:-1], "test_later.py"], "python")
+        tally.check(f"pytest: what it records of the last test, of scope {scope}, is judged", done.returncode == 1 and "2 passed, 1 error" in done.stdout
+                    and "contents 0.2: " in done.stdout.partition("ERROR at teardown of test_last")[2] and done.stdout.count(": something was recorded") == 1,
+                    done.stdout)
+    place.make("python/test_later.py", RUNNING)
+    done = place.run([*command[:-1], "test_later.py"], "python")
+    tally.check("pytest: what a thread records that still runs fails the run", done.returncode == 1 and re.search(r"^2 passed in ", done.stdout, re.MULTILINE)
+                and done.stdout.count("ERROR ") == 1 and "ERROR test_later.py::test_begins - domepeeler: something was recorded after" in done.stdout,
+                done.stdout)
     (place.folder / "python/test_later.py").unlink()
     done = place.run([*command, "-k", "unsure", "-W", "error::domepeeler.pytest_plugin.Unsure"], "python")
     tally.check("pytest: such a warning as an error", done.returncode == 1 and "1 passed, 8 deselected, 1 error" in done.stdout

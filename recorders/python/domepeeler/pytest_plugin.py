@@ -13,7 +13,7 @@ Where a recording is not accepted the test fails, and its report has the explana
 fixtures record while they are torn down is judged too, when that is done; pytest tells it as an error of the test. The report of a
 test that fails by itself has the verdict on its recordings, accepted or not, in a section of its own, and they are saved. Where a test
 passes, the traces that it saved before are removed; and of what its accepted recordings may hide pytest warns, by `Unsure`. What is
-recorded later still, as by a thread, nothing has judged: it fails the run."""
+recorded later still, as by a thread or a wider fixture, nothing has judged: it fails the run, if it comes before pytest has ended."""
 from __future__ import annotations
 
 import contextlib
