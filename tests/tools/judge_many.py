@@ -63,12 +63,15 @@ MESSAGES = {"lost.trace": ("contents", "contents 0.2: "), "-moved {#}.trace": ("
 # What another program does, as a shell says it, and what is said of the program and that.
 NO_REPORT = "{} printed no report that agrees with its status: is it domepeeler? It ended with status "
 OTHER_TRACE = "{} printed a report that is not on this trace: is it domepeeler?"
+NO_VERDICT = "{} printed a verdict that is not known here: "
 OTHERS = [("echo hello", f"{NO_REPORT}0"), ("echo '[]'", f"{NO_REPORT}0"), ("echo '{\"a\": 1}'; exit 1", f"{NO_REPORT}1"),
           ("echo '{\"verdict\":\"accepted\"}'; exit 1", f"{NO_REPORT}1"), ("echo '{\"verdict\":\"contents\",\"at\":\"0.1\"}'; exit 0", f"{NO_REPORT}0"),
           ("printf '\\033[31musage\\n' >&2; exit 2", f"{NO_REPORT}2: \\x1b[31musage"),
           ("echo '{\"verdict\":\"accepted\"}'; exit 0", OTHER_TRACE),
           ("echo '{\"verdict\":\"accepted\",\"operations\":99}'; exit 0", OTHER_TRACE),
-          ("echo '{\"verdict\":\"great\"}'; exit 0", f"{NO_REPORT}0"),
+          ("echo '{\"verdict\":\"great\"}'; exit 0", f"{NO_REPORT}0"), ("echo '{\"verdict\":\"great\"}'; exit 1", f"{NO_VERDICT}great"),
+          ("echo '{\"verdict\":\"failed\"}'; exit 1", f"{NO_VERDICT}failed"), ("echo '{\"verdict\":\"unread\"}'; exit 1", f"{NO_VERDICT}unread"),
+          ("printf %s '{\"verdict\":\"\\u001b[31m\\n\",\"weak\":true}'; exit 1", f"{NO_VERDICT}\\x1b[31m\\n"),
           ("echo 'usage: other' >&2; exit 2", f"{NO_REPORT}2: usage: other"), ("kill -9 $$", "{} was ended by signal 9 (SIGKILL)")]
 # Programs that don't answer their version as domepeeler does, and what is said of them: nothing is judged.
 STRANGERS = [("echo 'GNU coreutils 9.1'", "it ended with status 0: GNU coreutils 9.1"), ("exit 3", "it ended with status 3"),
@@ -357,6 +360,12 @@ def others(tally: Tally, folder: str, other: str) -> None:
         statuses = {json.loads(line)["status"] for line in done.stdout.splitlines()}
         ended = 128 + 9 if printed.startswith("kill") else int(printed[-1]) if "exit" in printed else 0
         tally.check(f"another program, {printed}: its status", statuses == {ended}, done.stdout)
+        done = subprocess.run([TOOL, "--weak", "--failing", "--json", "--junit", f"{other}/junit.xml", folder], capture_output=True, text=True,
+                              env=os.environ | {"DOMEPEELER": str(path)})
+        said = {(row["verdict"], row.get("error") in wanted, "report" in row) for row in map(json.loads, done.stdout.splitlines())}
+        faults = [(fault.tag, fault.get("type"), fault.get("message") in wanted) for fault in xml.parse(f"{other}/junit.xml").findall(".//testcase/*")]
+        tally.check(f"another program, {printed}: where weak is enough, in JSON and JUnit's form", done.returncode == 2 and said == {("failed", True, False)}
+                    and faults == [("error", "failed", True)] * 7, (done, faults))
     for printed, told in STRANGERS:
         path.write_text(f"#!/bin/sh\n{printed}\n")
         tally.same(f"no domepeeler: {printed}", judge(str(path), [folder]),

@@ -11,14 +11,14 @@ from .evidence import Evidence, Unexplained
 from .faulty_lines import about_fault
 from .files import Side
 from .places import Beside, beside, placed_warnings, with_places
-from .programs import NoProgram, is_another, is_of, is_weak_alone, no_report, of_another_trace, report_in, report_of
+from .programs import VERDICTS, NoProgram, is_another, is_of, is_weak_alone, no_report, of_another_trace, report_in, report_of
 from .recordings import FIRST_ENTRY, Recording
 from .telling import MOST_STEPS, listed
 from .warnings import Warnings, warnings_of
 from .words import text_of, verdict_of, with_warnings
 
-KINDS = ["accepted", "refused", "contents", "position", "doubled", "unread", "failed"]
 NO_VERDICTS = ["unread", "failed"]
+KINDS = ["accepted", "refused", "contents", "position", "doubled", *NO_VERDICTS]
 MOST_HALVED = 4096  # lines of a trace whose beginnings are judged too
 PLACES = ["at", "first", "again"]  # what a report says of operations beside steps
 IN_WORDS = ["fault", "explanation"]  # of a row what is no field of its object in JSON
@@ -95,7 +95,7 @@ def row_of(request: Request, file: str, trace: bytes, side: Side, answer: Answer
         return failed(file, seconds, status, no_report(request.program, status, error), lines)
     if report is None:
         return Row(file, "unread" if status == 2 else "failed", None, lines, seconds, status, None, error, fault=fault_of(error, trace, file))
-    if report["verdict"] not in KINDS:
+    if report["verdict"] not in VERDICTS:
         return failed(file, seconds, status, f"{request.program} printed a verdict that is not known here: {report['verdict']}", lines)
     if not is_of(report, trace):
         return failed(file, seconds, status, of_another_trace(request.program), lines)
