@@ -334,7 +334,7 @@ A pipe or a device has no such file beside it."
   (let ((coding-system-for-write 'utf-8-unix)
         (beside (concat file ".lines")))
     (if (and (file-exists-p file) (not (file-regular-p file)))
-        (write-region (domepeeler-text recording) nil file nil 'silent)
+        (domepeeler--named file (write-region (domepeeler-text recording) nil file nil 'silent))
       (let ((trace (domepeeler--write-fresh (domepeeler-text recording) file)))
         (unwind-protect
             (progn
@@ -351,11 +351,11 @@ A pipe or a device has no such file beside it."
                      (reverse (domepeeler-recording-deliveries recording)) "")))
 
 (defmacro domepeeler--named (file &rest body)
-  "Do BODY; an error of a file is told with FILE's name."
+  "Do BODY; an error of a file is told with FILE's name, as one for an error."
   (declare (indent 1))
   `(condition-case why
        (progn ,@body)
-     (file-error (signal (car why) (list (nth 1 why) (nth 2 why) (expand-file-name ,file))))))
+     (file-error (signal (car why) (list (nth 1 why) (nth 2 why) (domepeeler--escaped (expand-file-name ,file)))))))
 
 (defun domepeeler--write-fresh (text file)
   "Write TEXT into a new file beside what FILE, or a link of this name, leads to.

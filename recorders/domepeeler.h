@@ -583,7 +583,9 @@ struct domepeeler_fresh {
 };
 
 static inline unsigned domepeeler_cannot_write(struct domepeeler *d, const char *path) {
-    return domepeeler_fail(d, "cannot write %s: %s", path, strerror(errno));
+    char shown[400]; /* so that there is room for the reason behind a long path */
+    const char *why = strerror(errno);
+    return domepeeler_fail(d, "cannot write %s: %s", domepeeler_escaped(path, shown, sizeof shown), why);
 }
 
 /* Writes such a file. Answers 1; else there is none. */

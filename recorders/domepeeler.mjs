@@ -270,7 +270,7 @@ export class Recording {
 
   /** Writes the text into a file of this name; and first, into one with `.lines` behind the name, how many lines it has, so that the
    * tools notice where the end of the file is lost, your notes, and from where in your code or log each line was recorded. Each file
-   * appears whole, or not at all. A pipe or a device has none beside it. A promise of nothing. */
+   * appears whole, or not at all. A pipe or a device has none beside it. A promise of nothing; an error has Node's own as its `cause`. */
   async save(path) {
     const { stat, writeFile } = await import("node:fs/promises")
     const { fileURLToPath } = await import("node:url")
@@ -281,7 +281,7 @@ export class Recording {
     const beside = [this.#lines.length, "language javascript", ...notes, ...delivered, ...(this.#hasLog ? ["log"] : []),
       ...places.map(([line, told]) => `${line} ${told}`)]
     const there = await stat(name).catch(() => null)
-    if (there !== null && !there.isFile()) return await writeFile(name, text)
+    if (there !== null && !there.isFile()) return await writeFile(name, text).catch((why) => { throw telling(why, name) })
     const target = await linkedTo(name) // first of all, so that an error names the file that was asked for
     await put(`${name}.lines`, beside.map((line) => `${line}\n`).join(""))
     await put(name, text, target)
@@ -757,9 +757,10 @@ async function put(path, text, target = null) {
   }
 }
 
-// The error, with the path that was asked for in the place of those of its call.
+// The recorder's own error of one of Node's, with the path that was asked for in the place of those of its call.
 function telling(why, path) {
-  return Object.assign(new Error(`${why.message.replace(/, [a-z]+(?: '.*)?$/s, "")}: ${path}`), { code: why.code, errno: why.errno, path })
+  const told = `${why.message.replace(/, [a-z]+(?: '.*)?$/s, "")}: ${escaped(path)}`
+  return Object.assign(new Error(told, { cause: why }), { code: why.code, errno: why.errno, path })
 }
 
 // What says a place from the current folder.

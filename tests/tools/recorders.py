@@ -570,6 +570,42 @@ def check_save(tally: Tally, recorder: Recorder, folder: Path) -> None:
     got = recorder.answers(["new\t1", f"save\t{folder}/nowhere/a.trace", "text"])
     tally.check(f"{recorder.language}: save nowhere", got[1:2] and got[1].startswith("failed ") and "o such file" in got[1]
                 and got[2:] == ["| trace 1", "| replicas 1", "ok"], got)
+    check_odd_paths(tally, recorder, folder)
+
+
+# A name of a folder, and how an error shows it: Python's own way, ours, and that of Rust, whose errors have no path.
+ODD = "no\x1b[31m\n::error::x"
+ODD_SHOWN = {"py": "no\\x1b[31m\\n::error::x", "rs": ""}
+ODD_OURS = "no\\x1b[31m\\x0a::error::x"
+# What JavaScript's error of such a path has.
+ODD_ERROR = """import { Recording } from "%s"
+const path = process.argv[2]
+const why = await new Recording(1).save(path).catch((error) => error)
+console.log(JSON.stringify([why.constructor.name, why.path === path, why.code, why.cause instanceof Error, why.cause.code, why.message]))
+"""
+
+
+def check_odd_paths(tally: Tally, recorder: Recorder, folder: Path) -> None:
+    """An error of save shows a path so that it sends no bytes of its own to a terminal and begins no line: where its folder is not there,
+    where it is a folder itself, and where what stands beside it is one."""
+    place = folder / f"odd paths of {recorder.language}" / ODD
+    Path(place, "folder").mkdir(parents=True)
+    Path(place, "a.trace.lines").mkdir()
+    shown = ODD_SHOWN.get(recorder.language, ODD_OURS)
+    for end, told in ("none/a.trace", "o such file"), ("folder", "directory"), ("a.trace", "directory"):
+        got = recorder.answers(["new\t1", f"save\t{place}/{end}".replace("\n", "\x1e"), "lines"])
+        tally.check(f"{recorder.language}: an odd path that can't be written: {end}", len(got) == 3 and got[2] == "ok 2" and got[1].startswith("failed ")
+                    and told in got[1] and got[1].isprintable() and (f"{shown}/{end}" if shown else "") in got[1], got)
+    if recorder.language != "mjs":
+        return
+    script = folder / "odd_error.mjs"
+    script.write_text(ODD_ERROR % (ROOT / "recorders/domepeeler.mjs"))
+    for end, code in ("none/a.trace", "ENOENT"), ("folder", "EISDIR"), ("a.trace", "EISDIR"):
+        done = subprocess.run(["node", script, f"{place}/{end}"], capture_output=True, text=True)
+        name, is_path, *codes, told = json.loads(done.stdout) if done.returncode == 0 else [done] * 6
+        of_lines = end == "a.trace"  # the path that can't be written is then that of what stands beside it
+        tally.check(f"mjs: the error of an odd path has Node's own as its cause: {end}", name == "Error" and is_path == (not of_lines) and
+                    codes == [code, True, code] and told.isprintable() and told.endswith(f"{shown}/{end}{'.lines' * of_lines}"), done)
 
 
 # Runs a command whose files have room for 512 bytes; a write beyond that fails, or, in Emacs, ends the command.
