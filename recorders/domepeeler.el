@@ -468,7 +468,7 @@ With `domepeeler-weak' a recording passes where weak holds."
              (null (alist-get 'warnings report)))
         (progn
           (unless (equal (alist-get 'verdict report) "accepted")
-            (message "weak holds, strong doesn't"))
+            (message "%s" "weak holds, strong doesn't")) ; Emacs would show another quotation mark
           (dolist (saved (list file (concat file ".lines")))
             (when (file-regular-p saved) (delete-file saved))))
       (let ((told (domepeeler--told recording file)))

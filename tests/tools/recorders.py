@@ -3089,6 +3089,23 @@ ABORTS_EL = """(load "{recorder}" nil t)
     (domepeeler-read recording 0 (and (equal (nth 0 argv) "shown") '("a")))
     (unless (equal (nth 1 argv) "holds") (error "By itself"))))
 """
+# A session of which weak alone holds, or of another order, which is accepted.
+WEAK_EL = """(load "{recorder}" nil t)
+(let* ((argv (prog1 command-line-args-left (setq command-line-args-left nil)))
+       (domepeeler-weak (equal (nth 0 argv) "weak"))
+       (end (if (equal (nth 1 argv) "alone") '("b" "a") '("a" "b"))))
+  (domepeeler-with-recording (recording 3) "weak.trace"
+    (domepeeler-insert recording 0 "x" 0 '("x"))
+    (domepeeler-received recording 1 0 1)
+    (domepeeler-received recording 2 0 1)
+    (domepeeler-insert recording 1 "a" 0 '("a" "x"))
+    (domepeeler-insert recording 2 "b" 1 '("x" "b"))
+    (domepeeler-delete recording 0 "x" nil)
+    (domepeeler-received recording 0 1 1)
+    (domepeeler-received recording 0 2 1)
+    (domepeeler-read recording 0 end)
+    (domepeeler-delivered recording (list end end end))))
+"""
 
 
 def check_aborts(tally: Tally, program: str, folder: Path) -> None:
@@ -3121,6 +3138,15 @@ def check_aborts(tally: Tally, program: str, folder: Path) -> None:
         is_right = done.returncode == 0 and not saved.exists() and not Path(f"{saved}.lines").exists() if shown == "shown" else (
             done.returncode != 0 and is_told(done, verdict, last))
         tally.check(f"Emacs Lisp: judged at the end, {shown}", is_right, done)
+    (place / "weak.el").write_text(WEAK_EL.format(recorder=ROOT / "recorders/domepeeler.el"))
+    lisp, trace, alone = [*LISP[:-1], "weak.el"], place / "weak.trace", "weak holds, strong doesn't\n"
+    for goal, ends, said in ("weak", "alone", alone), ("weak", "accepted", ""), ("strong", "accepted", ""):
+        done = ran(*lisp, goal, ends)
+        tally.check(f"Emacs Lisp: a pass by weak alone is told, and no other: {goal}, {ends}", (done.returncode, done.stdout, done.stderr) == (0, "", said)
+                    and not trace.exists(), done)
+    done = ran(*lisp, "strong", "alone")
+    tally.check("Emacs Lisp: no pass by weak alone where strong is wanted", done.returncode != 0 and done.stderr.startswith("refused 3: ") and
+                "The trace is saved: weak.trace\n" in done.stderr and alone not in done.stderr and trace.exists(), done)
 
 
 # A program that can't learn how another ended; and then one whose reads and waits are interrupted each second time.
