@@ -61,6 +61,7 @@
 (defconst domepeeler--letters 200 "Of a note.")
 (defconst domepeeler--delivered 100
   "Calls of `domepeeler-delivered' that the explainer is told of, the last ones.")
+(defconst domepeeler--tries 100 "Of saving where another process saves too.")
 (defconst domepeeler--told 5 "Deletes, or inserts, that warnings tell one by one.")
 (defconst domepeeler--few 3
   "Changes that warnings tell one by one.
@@ -335,13 +336,30 @@ A pipe or a device has no such file beside it."
         (beside (concat file ".lines")))
     (if (and (file-exists-p file) (not (file-regular-p file)))
         (domepeeler--named file (write-region (domepeeler-text recording) nil file nil 'silent))
-      (let ((trace (domepeeler--write-fresh (domepeeler-text recording) file)))
-        (unwind-protect
-            (progn
-              (domepeeler--put-fresh (domepeeler--write-fresh (domepeeler--beside recording) beside) beside)
-              (domepeeler--put-fresh trace file))
-          (when (file-exists-p trace) (delete-file trace)))))
+      (cl-loop with text = (domepeeler-text recording)
+               with told = (domepeeler--beside recording)
+               repeat domepeeler--tries
+               do (domepeeler--put-both text file told beside)
+               thereis (domepeeler--may-hold beside told)
+               finally (domepeeler--named file (signal 'file-error '("Saving" "another process saves there too")))))
     nil))
+
+(defun domepeeler--put-both (text file told beside)
+  "Put TEXT into FILE, and first TOLD into BESIDE."
+  (let ((trace (domepeeler--write-fresh text file)))
+    (unwind-protect
+        (progn
+          (domepeeler--put-fresh (domepeeler--write-fresh told beside) beside)
+          (domepeeler--put-fresh trace file))
+      (when (file-exists-p trace) (delete-file trace)))))
+
+(defun domepeeler--may-hold (file text)
+  "Whether FILE has TEXT, where it can be read.
+If not, another process has put its own there, beside this trace."
+  (with-temp-buffer
+    (set-buffer-multibyte nil)
+    (or (not (ignore-errors (insert-file-contents-literally file) t))
+        (equal (buffer-string) (encode-coding-string text 'utf-8-unix)))))
 
 (defun domepeeler--beside (recording)
   "What stands in the file beside the trace."

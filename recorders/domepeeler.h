@@ -582,10 +582,13 @@ struct domepeeler_fresh {
     const char *named;    /* as the caller has it */
 };
 
-static inline unsigned domepeeler_cannot_write(struct domepeeler *d, const char *path) {
+static inline unsigned domepeeler_cannot_write_since(struct domepeeler *d, const char *path, const char *why) {
     char shown[400]; /* so that there is room for the reason behind a long path */
-    const char *why = strerror(errno);
     return domepeeler_fail(d, "cannot write %s: %s", domepeeler_escaped(path, shown, sizeof shown), why);
+}
+
+static inline unsigned domepeeler_cannot_write(struct domepeeler *d, const char *path) {
+    return domepeeler_cannot_write_since(d, path, strerror(errno));
 }
 
 /* Writes such a file. Answers 1; else there is none. */
@@ -620,8 +623,27 @@ static inline void domepeeler_free_fresh(struct domepeeler_fresh *fresh) {
     free(fresh->becomes);
 }
 
+/* Whether the file has these bytes, where it can be read. */
+static inline int domepeeler_may_hold(const char *path, const char *bytes, size_t length) {
+    int file = open(path, O_RDONLY | O_CLOEXEC), is_same = 1;
+    char there[4096];
+    size_t at = 0;
+    while (file >= 0 && is_same) {
+        ssize_t got = read(file, there, sizeof there);
+        if (got < 0 && errno == EINTR) continue;
+        if (got <= 0) {
+            is_same = got < 0 || at == length;
+            break;
+        }
+        is_same = (size_t)got <= length - at && !memcmp(there, bytes + at, (size_t)got);
+        at += (size_t)got;
+    }
+    if (file >= 0) close(file);
+    return is_same;
+}
+
 /* Writes the text, and what stands beside it, into files that become those of these names. Answers 1. */
-static inline unsigned domepeeler_save_both(struct domepeeler *d, const char *path, const char *beside, const char *lines) {
+static inline unsigned domepeeler_put_both(struct domepeeler *d, const char *path, const char *beside, const char *lines) {
     struct domepeeler_fresh trace = {NULL, NULL, NULL}, side = {NULL, NULL, NULL};
     unsigned is_saved = 0;
     if (domepeeler_write_fresh(d, &trace, path, d->text, d->length)) {
@@ -632,6 +654,16 @@ static inline unsigned domepeeler_save_both(struct domepeeler *d, const char *pa
     domepeeler_free_fresh(&trace);
     domepeeler_free_fresh(&side);
     return is_saved;
+}
+
+/* The same; again where another process has put its own beside this trace meanwhile. */
+static inline unsigned domepeeler_save_both(struct domepeeler *d, const char *path, const char *beside, const char *lines) {
+    enum { TRIES = 100 };
+    for (int i = 0; i < TRIES; i++) {
+        if (!domepeeler_put_both(d, path, beside, lines)) return 0;
+        if (domepeeler_may_hold(beside, lines, strlen(lines))) return 1;
+    }
+    return domepeeler_cannot_write_since(d, path, "another process saves there too");
 }
 
 /* Writes the text into a pipe or a device. Answers 1. */

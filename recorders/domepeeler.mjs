@@ -46,6 +46,7 @@ const MOST_LINKS = 40 // that lead on from one to the next
 const HEAD_LINES = 2 // of a trace, before its entries
 const MOST_NOTES = 20, MOST_LETTERS = 200 // of a recording, and of a note
 const MOST_DELIVERED = 100 // calls of delivered() of which the tool is told
+const MOST_TRIES = 100 // of saving where another process saves too
 // What is no part of a printable line.
 const NO_NOTE = /[\0-\x1f\x7f-\x9f\u2028-\u202e\u2066-\u2069]|[\ud800-\udbff](?![\udc00-\udfff])|(?<![\ud800-\udbff])[\udc00-\udfff]/
 const MOST_SHOWN = 40 // letters of a wrong value in an error
@@ -283,8 +284,13 @@ export class Recording {
     const there = await stat(name).catch(() => null)
     if (there !== null && !there.isFile()) return await writeFile(name, text).catch((why) => { throw telling(why, name) })
     const target = await linkedTo(name) // first of all, so that an error names the file that was asked for
-    await put(`${name}.lines`, beside.map((line) => `${line}\n`).join(""))
-    await put(name, text, target)
+    const toldBeside = beside.map((line) => `${line}\n`).join("")
+    for (let tries = 0; tries < MOST_TRIES; tries++) {
+      await put(`${name}.lines`, toldBeside)
+      await put(name, text, target)
+      if (await mayHold(`${name}.lines`, toldBeside)) return // else another one has put its own there, and this trace is beside it
+    }
+    throw Object.assign(new Error(`another process saves there too: ${escaped(name)}`), { code: "EBUSY", path: name })
   }
 
   /** What an accepted verdict on this recording may hide: that replicas end differently, say, or that nothing was recorded. A promise of
@@ -755,6 +761,12 @@ async function put(path, text, target = null) {
     await rm(made, { force: true }).catch(() => {})
     throw telling(why, path)
   }
+}
+
+// Whether the file has this text, where it can be read.
+async function mayHold(path, text) {
+  const { readFile } = await import("node:fs/promises")
+  return await readFile(path).then((there) => there.equals(Buffer.from(text)), () => true)
 }
 
 // The recorder's own error of one of Node's, with the path that was asked for in the place of those of its call.

@@ -54,6 +54,7 @@ ONE_LOG = "one replica's log is no recording: merge the logs first"
 NOT_STOPPED = "one replica's log can't stop in a wrong call: it is judged only when the logs are merged"
 MOST_NOTES, MOST_LETTERS = 20, 200  # of a recording, and of a note
 MOST_DELIVERED = 100  # calls of `delivered` of which the tool is told
+MOST_TRIES = 100  # of saving where another process saves too
 NO_NOTE = re.compile("[\0-\x1f\x7f-\x9f\u2028-\u202e\u2066-\u2069\ud800-\udfff]")  # what is no part of a printable line
 MOST_SHOWN = 40  # letters of a wrong value in an error
 COMMAND = re.compile(" *(?=::|##)")  # stands before the signs with which a line of a CI service's commands begins
@@ -336,8 +337,13 @@ class Recording:
         beside = [str(len(self._lines)), *marks, *(f"{line} {places}" for line, places in self._places())]
         if not os.path.isdir(os.path.dirname(os.path.realpath(name))):
             raise FileNotFoundError(errno.ENOENT, os.strerror(errno.ENOENT), name)
-        _put(f"{name}.lines", "".join(f"{line}\n" for line in beside).encode(errors="replace"))
-        _put(name, text)  # as bytes: each line ends with LF alone on every system
+        told = "".join(f"{line}\n" for line in beside).encode(errors="replace")
+        for _ in range(MOST_TRIES):
+            _put(f"{name}.lines", told)
+            _put(name, text)  # as bytes: each line ends with LF alone on every system
+            if _may_hold(f"{name}.lines", told):  # or another process has put its own there, and this trace beside it
+                return
+        raise OSError(errno.EBUSY, "another process saves there too", name)
 
     @_alone
     def warnings(self) -> List[str]:
@@ -700,6 +706,15 @@ def _put(path: str, content: bytes) -> None:
             raise
     except OSError as why:
         raise OSError(why.errno, why.strerror, path) from None
+
+
+def _may_hold(path: str, content: bytes) -> bool:
+    """Whether the file has this content, where it can be read."""
+    try:
+        with open(path, "rb") as file:
+            return file.read(len(content) + 1) == content
+    except OSError:
+        return True
 
 
 def _folder_here() -> str:

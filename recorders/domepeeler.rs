@@ -66,6 +66,7 @@ const MOST_LINKS: usize = 40; // that are followed, one behind the other
 const MOST_NOTES: usize = 20;
 const MOST_LETTERS: usize = 200; // of a note
 const MOST_DELIVERED: usize = 100; // calls of `delivered` that the explainer is told of, the last ones
+const MOST_TRIES: usize = 100; // of saving where another process saves too
 const MOST_TOLD: usize = 5; // deletes, or inserts, that warnings tell one by one
 const MOST_CHANGES: usize = 3; // that warnings tell one by one of those that a replica lacks, or has made nothing of
 const MORE_CHANGES: &str = "; if the update carried more than one change, say how many (`changes`)";
@@ -564,12 +565,23 @@ impl Recording {
         } else {
             let mut beside = path.as_os_str().to_owned();
             beside.push(".lines");
-            let trace = Fresh::written(path, &self.lines)?;
-            Fresh::written(Path::new(&beside), &self.beside())?.put()?;
-            trace.put()?;
+            self.save_both(path, Path::new(&beside), &self.beside())?;
         }
         self.seen.saved.store(self.lines(), Ordering::Relaxed);
         Ok(())
+    }
+
+    /// Writes the text, and what stands beside it; again where another process has put its own there meanwhile, beside this trace.
+    fn save_both(&self, path: &Path, beside: &Path, told: &str) -> io::Result<()> {
+        for _ in 0..MOST_TRIES {
+            let trace = Fresh::written(path, &self.lines)?;
+            Fresh::written(beside, told)?.put()?;
+            trace.put()?;
+            if !matches!(fs::read(beside), Ok(there) if there != told.as_bytes()) {
+                return Ok(());
+            }
+        }
+        Err(io::Error::new(io::ErrorKind::AlreadyExists, "another process saves there too"))
     }
 
     /// What an accepted verdict on this recording may hide, a line each, with the places in your code: a change that never arrived,

@@ -44,6 +44,7 @@ HEAD = 2  # lines of a text before its entries
 MOST_BYTES = 1 << 27  # of a log, or of what stands beside one
 MOST_SHOWN = 120  # letters of a line
 MOST_NOTES = 20  # as many as a recording takes
+MOST_TRIES = 100  # of writing where another process writes too
 ABSENT = errno.ENOENT, errno.ENAMETOOLONG  # what stands beside a log is not there
 RECEIPT = "recv [0-9]{1,7} [0-9]{1,7}"
 ENTRIES = {"trace 1": re.compile("[0-9]+ (%s|(ins|del|read) .*)" % RECEIPT, re.ASCII),
@@ -232,6 +233,24 @@ def write(path, content):
         fail(2, "cannot write %s: %s" % (path, why.strerror))
 
 
+def write_both(path, trace, beside):
+    """Writes the trace, and what stands beside it; again where another process has put its own there meanwhile, beside this trace."""
+    for _ in range(MOST_TRIES):
+        write(path + SIDE, beside)
+        write(path, trace)
+        if may_hold(path + SIDE, beside):
+            return
+    fail(2, "cannot write %s: another process writes there too" % path)
+
+
+def may_hold(path, text):
+    """Whether the file has this content, where it can be read."""
+    try:
+        return content(path) == text
+    except OSError:
+        return True
+
+
 def write_whole(path, content):
     """Writes a file that appears whole or not at all."""
     mode = stat.S_IMODE(os.stat(path).st_mode) if os.path.exists(path) else None
@@ -307,9 +326,11 @@ def main():
     if asked.output is None:
         write_out(text_of(lines))
         return
-    if os.path.isfile(asked.output) or not os.path.exists(asked.output):  # a pipe or a device has no file beside it
-        write(asked.output + SIDE, beside_trace(logs, lines))
-    write(asked.output, text_of(lines).encode())
+    trace = text_of(lines).encode()
+    if os.path.exists(asked.output) and not os.path.isfile(asked.output):  # a pipe or a device has no file beside it
+        write(asked.output, trace)
+    else:
+        write_both(asked.output, trace, beside_trace(logs, lines))
 
 
 if __name__ == "__main__":

@@ -29,7 +29,7 @@ from urllib.parse import unquote, unquote_to_bytes
 ROOT = Path(__file__).resolve().parents[2]
 sys.path[:0] = [str(ROOT / "tests"), str(ROOT / "tools")]
 from explaining.warnings import hidden  # noqa: E402
-from shared.program import Tally, install, need, processor_seconds, program_of, run  # noqa: E402
+from shared.program import Tally, install, library_of, need, processor_seconds, program_of, run  # noqa: E402
 
 DRIVERS = ROOT / "tests" / "tools" / "recorder_drivers"
 EXAMPLES = ROOT / "examples"
@@ -732,9 +732,36 @@ def check_replaced(tally: Tally, recorder: Recorder, place: Path) -> None:
     ended = [process.stdout.read().splitlines()[-60:] == [b"ok"] * 60 and process.wait() == 0 for process in processes]
     tally.check(f"{recorder.language}: two that save to one path", all(ended) and seen and seen <= set(texts),
                 (ended, [text[:40] for text in seen - set(texts)]))
+    count = Path(f"{both}.lines").read_text().split("\n")[0]
+    tally.check(f"{recorder.language}: two that save to one path: beside the trace stands what is of it", count == str(both.read_bytes().count(b"\n")), count)
+    check_interfered(tally, recorder, place)
     left = [path.name for path in place.iterdir() if path.name not in ("target.trace", "link.trace", "link.trace.lines", "new.trace",
                                                                        "new.trace.lines", "both.trace", "both.trace.lines")]
     tally.check(f"{recorder.language}: nothing else is left", left == [], left)
+
+
+def check_interfered(tally: Tally, recorder: Recorder, place: Path) -> None:
+    """Where another process saves to the same path just before the trace is put there, so that what stands beside it is of another one,
+    both are put there again; and where that goes on, it is an error."""
+    from domepeeler import Recording
+    own, other = place / "own.trace", place / "other.trace"
+    another = Recording(1)
+    another.insert(0, "other", 0, ["other"])
+    another.note("seed of another")
+    another.save(other)
+    before = [path.read_bytes() for path in (other, Path(f"{other}.lines"))]
+    with tempfile.TemporaryDirectory() as folder:  # whose path has no blank, by which LD_PRELOAD is cut
+        library = library_of(ROOT / "tests/shared/interfering.c", folder)
+        for often in 0, 1, 3, 1000:
+            got = recorder.answers(["new\t1", "read\t0", "note\tseed of one", f"save\t{own}"], LD_PRELOAD=library, INTERFERED=str(own),
+                                   INTERFERER=str(other), INTERFERENCES=str(often))[-1]
+            beside = Path(f"{own}.lines").read_text()
+            is_own = own.read_bytes() == b"trace 1\nreplicas 1\n0 read :\n" and beside.startswith("3\n") and "\nnote seed of one\n" in beside
+            is_told = got.startswith("failed ") and "another process saves there too" in got and (recorder.language == "rs" or own.name in got)
+            tally.check(f"{recorder.language}: another process saves there too, {often} times", got == "ok" and is_own if often < 1000 else is_told, (got, beside))
+    tally.check(f"{recorder.language}: what another process saves is whole", [path.read_bytes() for path in (other, Path(f"{other}.lines"))] == before)
+    for path in own, Path(f"{own}.lines"), other, Path(f"{other}.lines"):
+        path.unlink()
 
 
 # Languages whose recorder remembers where each line was recorded, and how its driver names the recording before a call; and those whose
@@ -1821,6 +1848,7 @@ def check_merge_stopped(tally: Tally, place: Path) -> None:
             and (not text or old.read_text() == text),
             (limited, left))
     done = subprocess.run([*tool, "--output", "old.trace", "long.log"], cwd=place, capture_output=True)
+    check_merge_interfered(tally, place)
     tally.check("merge.py: the file's mode stays", done.returncode == 0 and old.read_text() == long.read_text()
                 and old.stat().st_mode & 0o777 == 0o640, done)
     with open(place / "huge.log", "wb") as file:
@@ -1831,6 +1859,23 @@ def check_merge_stopped(tally: Tally, place: Path) -> None:
     tally.check("merge.py: two outputs", done.returncode == 2
                 and done.stderr.endswith("merge.py: error: argument --output: it is given twice\n")
                 and not (place / "b").exists(), done)
+
+
+def check_merge_interfered(tally: Tally, place: Path) -> None:
+    """Where another process writes the same trace just before it is put there, both files are put there again; where that goes on, it is an
+    error."""
+    own, other, log = place / "own.trace", place / "another.trace", place / "interfered.log"
+    for path, text in (log, "trace 1\nreplicas 2\n0 read :\n"), (other, "trace 1\nreplicas 1\n"), (Path(f"{other}.lines"), "2\n"):
+        path.write_text(text)
+    with tempfile.TemporaryDirectory() as folder:
+        library = library_of(ROOT / "tests/shared/interfering.c", folder)
+        for often in 0, 1, 3, 1000:
+            done = subprocess.run([sys.executable, ROOT / "recorders" / "merge.py", "--output", own, log], capture_output=True, text=True, env={
+                **os.environ, "LD_PRELOAD": library, "INTERFERED": str(own), "INTERFERER": str(other), "INTERFERENCES": str(often)})
+            is_own = own.read_text() == log.read_text() and Path(f"{own}.lines").read_text() == "3\nmerged\n"
+            wanted = (0, "") if often < 1000 else (2, f"merge.py: cannot write {own}: another process writes there too\n")
+            tally.check(f"merge.py: another process writes there too, {often} times", (done.returncode, done.stderr) == wanted and (
+                is_own or often == 1000), (done, Path(f"{own}.lines").read_text()))
 
 
 def check_merged_beside(tally: Tally, folder: Path, name: str, besides: list, wanted: str, warned: str) -> None:
