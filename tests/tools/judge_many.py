@@ -486,10 +486,15 @@ def fails_at(tally: Tally, program: str, folder: str) -> None:
         lines = Path(row["file"]).read_bytes().splitlines(keepends=True)
         before, behind = (run(program, ["verdict", "-"], b"".join(lines[:count])).status for count in (row["fails_at"] - 1, row["fails_at"]))
         tally.check(f"fails at: {row['file']}", (before, behind) == (0, 1), row)
-    long = "".join(f"0 read : {'b a' if i == 5000 else 'a b'}|" for i in range(6000))[:-1]
-    write(folder, {"long/one.trace": f"0 ins a 0 : a|0 ins b 1 : a b|{long}"})
-    (row,) = map(json.loads, judge(program, ["--json", f"{folder}/long"]).out.decode().splitlines())
-    tally.check("fails at: of many lines, the report's last operation", (row["fails_at"], row["lines"]) == (5005, 6004), row["fails_at"])
+    for name, reads, is_halved in ("long", 2000, True), ("longest", 2600, False):
+        names = [f"{i:032}" for i in range(60)]
+        inserts = [f"0 ins {one} {at} : {' '.join(names[:at + 1])}" for at, one in enumerate(names)]
+        shown = [f"{replica} read : {' '.join(names[is_wrong:])}" for i in range(reads) for replica, is_wrong in ((0, i == reads - 1), (1, i == 500))]
+        write(folder, {f"{name}/one.trace": "|".join([*inserts, "1 recv 0 60", *shown])})
+        (row,) = map(json.loads, judge(program, ["--json", f"{folder}/{name}"]).out.decode().splitlines())
+        first, last = len(inserts) + 3 + 2 * 500 + 2, len(inserts) + 3 + 2 * reads - 1  # the wrong lines of replicas 1 and 0
+        tally.check(f"fails at: {name}", (row["fails_at"], row["lines"], row["report"]["at"]) == (
+            first if is_halved else last, last + 1, f"0.{60 + reads}") and ("causes" in row) == is_halved, row["fails_at"])
 
 
 def progress(tally: Tally, program: str, folder: str) -> None:

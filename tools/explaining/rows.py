@@ -19,7 +19,7 @@ from .words import text_of, verdict_of, with_warnings
 
 NO_VERDICTS = ["unread", "failed"]
 KINDS = ["accepted", "refused", "contents", "position", "doubled", *NO_VERDICTS]
-MOST_HALVED = 4096  # lines of a trace whose beginnings are judged too
+MOST_HALVED = 1 << 23  # bytes of a trace whose beginnings are judged too
 PLACES = ["at", "first", "again"]  # what a report says of operations beside steps
 IN_WORDS = ["fault", "explanation"]  # of a row what is no field of its object in JSON
 
@@ -134,7 +134,7 @@ def placed(row: Row, request: Request, trace: bytes, known: Beside) -> Row:
     likely the cause; without where the program lies."""
     try:
         recording = Recording(trace.decode(), known.delivered)
-        if row.lines > MOST_HALVED:
+        if len(trace) > MOST_HALVED:
             named = [*(step["shown"] for step in row.report.get("steps", [])), *(row.report[key] for key in PLACES if key in row.report)]
             return row._replace(fails_at=max(recording.operation(name).line for name in named))
         whole = Evidence(recording, row.report)
