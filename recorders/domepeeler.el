@@ -154,7 +154,7 @@ weak doesn't hold, signals `domepeeler-not-accepted' with the words of
 that again, and record nothing.  A program that can't be run signals as in
 `domepeeler-judge'."
   (when (and only stop)
-    (domepeeler--refuse "one replica's log can't stop in a wrong call: it is judged only when the logs are merged"))
+    (domepeeler--refuse "one replica's log can't be judged after each call, but only when the logs are merged"))
   (unless (domepeeler--whole replicas 1 domepeeler--replicas "number of replicas")
     (domepeeler--refuse "replicas are 1 to %d, not %d" domepeeler--replicas replicas))
   (let ((recording (domepeeler--make
@@ -272,7 +272,7 @@ RECORDING keeps which lines it wrote."
     (unless (or (vectorp lists) (proper-list-p lists))
       (domepeeler--refuse "%s%s" wanted (domepeeler--shown lists)))
     (unless (= (length lists) (length replicas))
-      (domepeeler--refuse "%sof %d" wanted (length lists)))
+      (domepeeler--refuse "%s%d" wanted (length lists)))
     (let ((known (domepeeler-recording-known recording))
           (lines (domepeeler-recording-lines recording))
           (first (1+ (domepeeler-lines recording)))
@@ -428,7 +428,7 @@ PROGRAM is by default that of the environment's DOMEPEELER, or \"domepeeler\"."
 (defun domepeeler--report (recording program)
   "PROGRAM's own report on RECORDING, as an alist."
   (let* ((programs (list program (getenv "DOMEPEELER") "domepeeler"))
-         (said (domepeeler--ask recording programs "the program's path in DOMEPEELER" "{" "report" "verdict" "--json" "-"))
+         (said (domepeeler--ask recording programs "DOMEPEELER to the program's path" "{" "report" "verdict" "--json" "-"))
          (report (ignore-errors (json-read-from-string said))))
     (unless (alist-get 'verdict report)
       (error "%s printed a report without a verdict" (domepeeler--first programs)))
@@ -443,7 +443,7 @@ are found.  With WEAK the weak list specification alone is asked for."
   (let* ((named (list explainer (getenv "DOMEPEELER_EXPLAIN") (domepeeler--beside-program "domepeeler-explain")))
          (delivered (cl-loop for (first . last) in (seq-take (domepeeler-recording-deliveries recording) domepeeler--delivered)
                              collect (format "%d-%d" first last)))
-         (said (apply #'domepeeler--ask recording named "the tool's path in DOMEPEELER_EXPLAIN" "." "words" "--language" "emacs-lisp"
+         (said (apply #'domepeeler--ask recording named "DOMEPEELER_EXPLAIN to the tool's path" "." "words" "--language" "emacs-lisp"
                       (append (and weak '("--weak"))
                               (cl-loop for range in (reverse delivered) append (list "--delivered" range)) (list "-"))))
          (words (make-hash-table :test #'equal))
@@ -537,7 +537,7 @@ else LACKING, and NAMED says what another program is named by."
           (insert (domepeeler-text recording))
           (let ((status (condition-case why
                             (apply #'call-process-region (point-min) (point-max) program t (list t errors) nil words)
-                          (file-error (error "%s cannot be run (%s): name %s" (domepeeler--escaped program) (error-message-string why) named)))))
+                          (file-error (error "%s cannot be run (%s): set %s" (domepeeler--escaped program) (error-message-string why) named)))))
             (goto-char (point-min))
             (unless (and (memq status '(0 1)) (looking-at begin))
               (domepeeler--ended program status lacking
@@ -633,7 +633,7 @@ COUNTS are the clock of the update, which carries AUTHOR's changes from FIRST."
            do (signal 'domepeeler-not-causal
                       (list (format "not causal: %d.%d was applied at replica %d before %d.%d, which replica %d had seen; %s%s"
                                     author n replica other lacking author
-                                    (format "%d.%d has to arrive first, or in the same update, or the call for its update is missing"
+                                    (format "%d.%d must arrive first or in the same update, unless only the call for it is missing"
                                             other lacking)
                                     (if (/= other author) ""
                                       "; if the update carried more than one change, say how many (`changes`)"))))))
@@ -770,7 +770,7 @@ A letter stands first, as `2-0' would look like an operation's name."
       (when (> names domepeeler--names)
         (domepeeler--full "a response of %d names; a trace takes at most %d" names domepeeler--names))
       (when (> places domepeeler--places)
-        (domepeeler--full "%d names over the responses of replica %d, the most that a trace takes is %d"
+        (domepeeler--full "%d names over the responses of replica %d; a trace takes at most %d"
                           places replica domepeeler--places))
       (cl-incf (domepeeler--replica-entries own))
       (cl-incf (domepeeler--replica-inserts own) inserts)
@@ -830,7 +830,7 @@ A letter stands first, as `2-0' would look like an operation's name."
               (puthash third t inserted)
               (let ((before (1- (length (split-string names " " t)))))
                 (when (> (string-to-number fourth) before)
-                  (push (format "%s inserted %s at position %s of a list of length %d, which counts as its end: %s" named third fourth before
+                  (push (format "%s inserted %s at position %s, which counts as the end of a list of length %d: %s" named third fourth before
                                 "is that the position that was asked for?")
                         past-end))))))))
     (make-domepeeler--warned
@@ -870,7 +870,7 @@ And which changes never arrived at which replica."
         (when changes
           (push (format "%s never arrived at replica %d" (domepeeler--listed changes) replica) never))))
     (let* ((never (domepeeler--joined (nreverse never)))
-           (lost (if (= count 1) "it was lost or is still held back" "they were lost or are still held back"))
+           (lost (if (= count 1) "it was lost or is held back" "they were lost or are held back"))
            (groups (mapcar (lambda (pair) (reverse (cdr pair))) (reverse lists)))
            (same (cl-loop for group in groups
                           when (cdr group) collect (format "%s show the same one" (domepeeler--joined group))))
@@ -878,9 +878,9 @@ And which changes never arrived at which replica."
                          (if same (format " (%s)" (domepeeler--joined same)) ""))))
       (cond
        ((and (< (length groups) 2) (= count 0)) nil)
-       ((< (length groups) 2) (list (format "by this recording %s. If everything was delivered, %s" never lost)))
+       ((< (length groups) 2) (list (format "in this recording %s. If nothing was still on its way, %s" never lost)))
        ((= count 0) (list told))
-       (t (list (format "%s: %s by this recording. If everything was delivered, %s" told never lost)))))))
+       (t (list (format "%s: %s in this recording. If nothing was still on its way, %s" told never lost)))))))
 
 (defun domepeeler--lacked (recording warned replica)
   "The changes that never arrived at REPLICA, with their lines.
@@ -908,7 +908,7 @@ None of an author of which it never hears."
            when others
            collect (format "replica %d never hears of replica%s %s: %s, %s. %s" replica (if (cdr others) "s" "")
                            (domepeeler--joined others) "no receipt brings it an insert or a delete from there"
-                           "so nothing shows what it makes of these"
+                           "so nothing shows how it applies these"
                            "At the end of a session let everyone receive everything, and read")))
 
 (defun domepeeler--unshown (recording warned)
@@ -918,7 +918,7 @@ A view is none."
            for news = (domepeeler--news recording warned replica)
            for viewed = (domepeeler--entries-viewed (aref (domepeeler--warned-entries warned) replica))
            when news
-           collect (format "replica %d received %s last, and nothing%s shows what it made of %s: let each replica read at the end"
+           collect (format "replica %d received %s last, and nothing%s shows how it applied %s: let each replica read at the end"
                            replica (domepeeler--listed news) (if viewed " but a view" "") (if (cdr news) "them" "that"))))
 
 (defun domepeeler--news (recording warned replica)

@@ -417,7 +417,7 @@ static inline size_t domepeeler_lines_now(const struct domepeeler *d) {
 }
 
 static inline unsigned domepeeler_stop_now(struct domepeeler *d, int is_weak, void (*call_back)(const char *words, void *data), void *data) {
-    if (d->only >= 0) return domepeeler_fail(d, "one replica's log can't stop in a wrong call: it is judged only when the logs are merged");
+    if (d->only >= 0) return domepeeler_fail(d, "one replica's log can't be judged after each call, but only when the logs are merged");
     d->stops = 1;
     d->is_weak_enough = is_weak;
     d->call_back = call_back;
@@ -800,7 +800,7 @@ static inline unsigned domepeeler_fits(struct domepeeler *d, int replica, unsign
                                  DOMEPEELER_NAMES);
     if (own->places + names > DOMEPEELER_PLACES)
         return domepeeler_refuse(d, 1,
-                                 "%zu names over the responses of replica %d, the most that a trace takes is %d",
+                                 "%zu names over the responses of replica %d; a trace takes at most %d",
                                  own->places + names, replica, DOMEPEELER_PLACES);
     return 1;
 }
@@ -953,7 +953,7 @@ static inline unsigned domepeeler_delivered_now(struct domepeeler *d, const char
     if (d->only >= 0)
         return domepeeler_refuse(d, 0, "one replica's log can't say that everything has arrived: the others are recorded elsewhere");
     if (count != (size_t)d->replicas)
-        return domepeeler_refuse(d, 0, "delivered takes one list for each of the %d replicas, not of %zu", d->replicas, count);
+        return domepeeler_refuse(d, 0, "delivered takes one list for each of the %d replicas, not %zu", d->replicas, count);
     if (!domepeeler_one_more_delivery(d)) return domepeeler_refuse(d, 0, "no memory");
     memcpy(before, d->of, sizeof before);
     unsigned is_said = 1;
@@ -1045,7 +1045,7 @@ static inline unsigned domepeeler_check_causal(struct domepeeler *d, int replica
         if (clock[other] > seen) seen = clock[other];
         if (lacking < seen && (other != author || of->changes[lacking] < first))
             return domepeeler_refuse(d, 0, "not causal: %d.%u was applied at replica %d before %d.%u, which replica %d had seen; "
-                                           "%d.%u has to arrive first, or in the same update, or the call for its update is missing%s",
+                                           "%d.%u must arrive first or in the same update, unless only the call for it is missing%s",
                                      author, n, replica, other,
                                      of->changes[lacking], author, other, of->changes[lacking],
                                      other == author ? "; if the update carried more than one change, say how many (`changes`)" : "");
@@ -1153,7 +1153,7 @@ static inline void domepeeler_read_operation(struct domepeeler_warned *w, int re
     long long before = -1, position = atoll(event.name.at + event.name.length);
     for (const char *letter = colon; letter < end; letter++) before += *letter == ' ';
     if (position <= before || w->ends++ >= DOMEPEELER_TOLD) return;
-    domepeeler_say(&w->past_end, "line %zu, %d.%u: replica %d inserted %.*s at position %lld of a list of length %lld, which counts as its end: "
+    domepeeler_say(&w->past_end, "line %zu, %d.%u: replica %d inserted %.*s at position %lld, which counts as the end of a list of length %lld: "
                                  "is that the position that was asked for?\n", line, replica, event.n, replica,
                    (int)event.name.length, event.name.at, position, before);
 }
@@ -1266,7 +1266,7 @@ static inline size_t domepeeler_say_alike(const struct domepeeler_warned *w, str
 static inline void domepeeler_say_different(const struct domepeeler_warned *w) {
     struct domepeeler_words never = {NULL, 0, 0, 0}, none = {NULL, 0, 0, 0};
     size_t count = domepeeler_say_lacked(w, &never), groups = 0, told = 0;
-    const char *lost = count == 1 ? "it was lost or is still held back" : "they were lost or are still held back";
+    const char *lost = count == 1 ? "it was lost or is held back" : "they were lost or are held back";
     int like[DOMEPEELER_REPLICAS];
     w->said->is_short |= never.is_short;
     if (domepeeler_alike(w, like) > 1) {
@@ -1280,10 +1280,10 @@ static inline void domepeeler_say_different(const struct domepeeler_warned *w) {
             domepeeler_say_alike(w, w->said, like, i);
             domepeeler_say(w->said, " show the same one%s", ++told == groups ? ")" : "");
         }
-        if (count) domepeeler_say(w->said, ": %s by this recording. If everything was delivered, %s", never.text ? never.text : "", lost);
+        if (count) domepeeler_say(w->said, ": %s in this recording. If nothing was still on its way, %s", never.text ? never.text : "", lost);
         domepeeler_say(w->said, "\n");
     } else if (count) {
-        domepeeler_say(w->said, "by this recording %s. If everything was delivered, %s\n", never.text ? never.text : "", lost);
+        domepeeler_say(w->said, "in this recording %s. If nothing was still on its way, %s\n", never.text ? never.text : "", lost);
     }
     free(never.text);
     free(none.text);
@@ -1301,7 +1301,7 @@ static inline void domepeeler_say_unheard(const struct domepeeler_warned *w) {
         if (!count || !w->d->of[i].operations) continue;
         domepeeler_say(w->said, "replica %d never hears of replica%s ", i, domepeeler_plural(count));
         for (size_t k = 0; k < count; k++) domepeeler_say(w->said, "%s%d", domepeeler_joint(k, count), others[k]);
-        domepeeler_say(w->said, ": no receipt brings it an insert or a delete from there, so nothing shows what it makes of these. "
+        domepeeler_say(w->said, ": no receipt brings it an insert or a delete from there, so nothing shows how it applies these. "
                                 "At the end of a session let everyone receive everything, and read\n");
     }
 }
@@ -1329,7 +1329,7 @@ static inline void domepeeler_say_unshown(struct domepeeler_warned *w) {
         if (!news) continue;
         domepeeler_say(w->said, "replica %d received ", i);
         domepeeler_say_changes(w->d, w->said, entries->arrived, news);
-        domepeeler_say(w->said, " last, and nothing%s shows what it made of %s: let each replica read at the end\n",
+        domepeeler_say(w->said, " last, and nothing%s shows how it applied %s: let each replica read at the end\n",
                        entries->is_viewed ? " but a view" : "", news == 1 ? "that" : "them");
     }
 }
@@ -1545,7 +1545,7 @@ static inline char *domepeeler_answer(struct domepeeler *d, const char *const *w
     int why = domepeeler_run(given, files, &status);
     char shown[200];
     domepeeler_escaped(words[0], shown, sizeof shown);
-    if (why > 0) domepeeler_fail(d, "%s cannot be run (%s): name %s", shown, strerror(why), named);
+    if (why > 0) domepeeler_fail(d, "%s cannot be run (%s): set %s", shown, strerror(why), named);
     if (why < 0) domepeeler_fail(d, "how %s ended was not learned: %s", words[0], strerror(errno));
     if (why) return NULL;
     char *printed = WIFEXITED(status) && WEXITSTATUS(status) < 2 ? domepeeler_whole(files[1]) : NULL;
@@ -1605,7 +1605,7 @@ static inline char *domepeeler_report(struct domepeeler *d, const char *program)
     if (!program || !*program) program = "domepeeler";
     const char *many[] = {program, "verdict", "--json", "-", NULL}, *few[] = {program, "verdict", "--workers", "1", "--json", "-", NULL};
     int is_short = domepeeler_lines_now(d) < DOMEPEELER_SHORT;
-    char *report = domepeeler_ask(d, is_short ? few : many, "the program's path in DOMEPEELER", "report", '{');
+    char *report = domepeeler_ask(d, is_short ? few : many, "DOMEPEELER to the program's path", "report", '{');
     if (!report || (strrchr(report, '}') && strstr(report, "\"verdict\":\""))) return report;
     domepeeler_fail(d, "%s printed a report without a verdict", program);
     free(report);
@@ -1636,7 +1636,7 @@ static inline unsigned domepeeler_passes_weak_now(struct domepeeler *d, const ch
     if (!program || !*program) program = "domepeeler";
     const char *many[] = {program, "verdict", "-", NULL}, *few[] = {program, "verdict", "--workers", "1", "-", NULL};
     int is_short = domepeeler_lines_now(d) < DOMEPEELER_SHORT;
-    char *report = domepeeler_ask(d, is_short ? few : many, "the program's path in DOMEPEELER", "report", 'r');
+    char *report = domepeeler_ask(d, is_short ? few : many, "DOMEPEELER to the program's path", "report", 'r');
     if (!report) return 0;
     const char *verdict = strchr(report, '\n');
     unsigned holds = strstr(report, "\nweak yes\n") != NULL, is_weak_alone = strstr(report, "\nstrong no\n") != NULL;
@@ -1775,7 +1775,7 @@ static inline char *domepeeler_explained(struct domepeeler *d, const char *expla
     }
     if (goal) words[count++] = goal;
     words[count] = "-";
-    char *said = domepeeler_ask(d, words, "the tool's path in DOMEPEELER_EXPLAIN", "words", 0);
+    char *said = domepeeler_ask(d, words, "DOMEPEELER_EXPLAIN to the tool's path", "words", 0);
     return said ? domepeeler_with_ids(d, said) : NULL;
 }
 

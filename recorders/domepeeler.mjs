@@ -38,7 +38,7 @@ const WITH_SIGNS = /^[A-Za-z0-9_.@,-]+$/ // an id that is translated
 const UUID = /^[0-9A-Fa-f]{8}(-[0-9A-Fa-f]{4}){3}-[0-9A-Fa-f]{12}$/
 const MOST_PRINTED = 1 << 28 // bytes: no report is as long
 const ONE_LOG = "one replica's log is no recording: merge the logs first"
-const NOT_STOPPED = "one replica's log can't stop in a wrong call: it is judged only when the logs are merged"
+const NOT_STOPPED = "one replica's log can't be judged after each call, but only when the logs are merged"
 const MORE_CHANGES = "; if the update carried more than one change, say how many (`changes`)"
 const MOST_CALLERS = 3, MOST_FRAMES = 50 // of an entry: callers that are kept, and frames that are looked at for them
 const MOST_STACKS = 1000 // that are remembered
@@ -414,7 +414,7 @@ export class Recording {
     const done = node.childProcess.spawnSync(name, [...words, ...more], { input: this.text(), maxBuffer: MOST_PRINTED, encoding: "utf8" })
     done.signalNumber = node.os.constants.signals[done.signal]
     if (done.error && done.status === null && done.signal === null) {
-      throw new Error(`${escaped(name)} cannot be run (${done.error.code}): name ${whose} path in ${variable}`)
+      throw new Error(`${escaped(name)} cannot be run (${done.error.code}): set ${variable} to ${whose} path`)
     }
     return { name, done }
   }
@@ -445,7 +445,7 @@ export class Recording {
   #room(replica, entries = 1) {
     const have = this.#replicas[replica].entries
     if (have + entries > MOST_ENTRIES) {
-      throw new Full(`replica ${replica} has ${have} entries, the most that a trace takes${entries > 1 ? ` is ${MOST_ENTRIES}` : ""}`)
+      throw new Full(`replica ${replica} has ${have} entries${entries > 1 ? `; a trace takes at most ${MOST_ENTRIES}` : ", the most that a trace takes"}`)
     }
   }
 
@@ -492,12 +492,12 @@ export class Recording {
   #shown(lists) {
     const wanted = `delivered takes one list for each of the ${this.#replicas.length} replicas, not `
     if (Array.isArray(lists)) {
-      if (lists.length !== this.#replicas.length) throw new Refused(`${wanted}of ${lists.length}`)
+      if (lists.length !== this.#replicas.length) throw new Refused(`${wanted}${lists.length}`)
       return Array.from(lists)
     }
     if (lists === null || typeof lists !== "object") throw new Refused(wanted + told(lists))
     const given = this.#byReplica(lists)
-    if (given.size !== this.#replicas.length) throw new Refused(`${wanted}of ${given.size}`)
+    if (given.size !== this.#replicas.length) throw new Refused(`${wanted}${given.size}`)
     return this.#replicas.map((_, replica) => given.get(replica))
   }
 
@@ -552,8 +552,8 @@ export class Recording {
       throw new Full(`a response of ${names} names; a trace takes at most ${MOST_NAMES}`)
     }
     if (own.places + names > MOST_PLACES) {
-      throw new Full(`${own.places + names} names over the responses of replica ${replica}, ` +
-        `the most that a trace takes is ${MOST_PLACES}`)
+      throw new Full(`${own.places + names} names over the responses of replica ${replica}; ` +
+        `a trace takes at most ${MOST_PLACES}`)
     }
   }
 
@@ -634,8 +634,8 @@ export class Recording {
         const first = lacking[other]
         if (first === undefined || first > Math.max(other === author ? n - 1 : past, seen ? seen[other] : 0)) return
         throw new NotCausal(`not causal: ${author}.${n} was applied at replica ${replica} before ${other}.${first}, ` +
-          `which replica ${author} had seen; ${other}.${first} has to arrive first, or in the same update, ` +
-          "or the call for its update is missing" +
+          `which replica ${author} had seen; ${other}.${first} must arrive first or in the same update, ` +
+          "unless only the call for it is missing" +
           (seen && other === author ? MORE_CHANGES : ""))
       })
     }
@@ -838,8 +838,8 @@ function hidden(lines) {
     if (kind === "ins") {
       inserted.add(words[2])
       if (Number(words[3]) > names.length - 1) {
-        pastEnd.push(`line ${line}, ${replica}.${n}: replica ${replica} inserted ${words[2]} at position ${words[3]} of a list of ` +
-          `length ${names.length - 1}, which counts as its end: is that the position that was asked for?`)
+        pastEnd.push(`line ${line}, ${replica}.${n}: replica ${replica} inserted ${words[2]} at position ${words[3]}, which counts as ` +
+          `the end of a list of length ${names.length - 1}: is that the position that was asked for?`)
       }
     } else if (kind === "del") {
       deletes.push([words[2], `line ${line}, ${replica}.${n}: replica ${replica} deleted ${words[2]}, which no line inserts, so no ` +
@@ -875,12 +875,12 @@ function different(ends) {
   const never = lacking.flatMap(({ changes, count }, replica) => (
     count ? [`${listing(changes, count)} never arrived at replica ${replica}`] : []))
   const isOne = lacking.reduce((all, { count }) => all + count, 0) === 1
-  const lost = isOne ? "it was lost or is still held back" : "they were lost or are still held back"
-  if (lists.size < 2) return never.length ? [`by this recording ${joined(never)}. If everything was delivered, ${lost}`] : []
+  const lost = isOne ? "it was lost or is held back" : "they were lost or are held back"
+  if (lists.size < 2) return never.length ? [`in this recording ${joined(never)}. If nothing was still on its way, ${lost}`] : []
   const replicas = [...lists.values()].flat().sort((a, b) => a - b)
   const same = [...lists.values()].filter((one) => one.length > 1).map((one) => `${joined(one)} show the same one`)
   const said = `in the end replicas ${joined(replicas)} show different lists${same.length ? ` (${joined(same)})` : ""}`
-  return [never.length ? `${said}: ${joined(never)} by this recording. If everything was delivered, ${lost}` : said]
+  return [never.length ? `${said}: ${joined(never)} in this recording. If nothing was still on its way, ${lost}` : said]
 }
 
 // The changes that never arrived at the replica, in the order of the trace, as many as are told, and how many there are; none of an author
@@ -904,7 +904,7 @@ function unheard(ends) {
     const others = ends.flatMap((other, author) => (isUnheard(other, author) ? [author] : []))
     if (!pasts.length || !others.length) return []
     return [`replica ${replica} never hears of replica${others.length === 1 ? "" : "s"} ${joined(others)}: no receipt brings it an ` +
-      "insert or a delete from there, so nothing shows what it makes of these. At the end of a session let everyone receive everything, " +
+      "insert or a delete from there, so nothing shows how it applies these. At the end of a session let everyone receive everything, " +
       "and read"]
   })
 }
@@ -919,7 +919,7 @@ function unshown(ends) {
       return ends.some(({ changes }, other) => upTo(changes, has[other]) > upTo(changes, before[other]))
     }).map(({ author, n, line }) => `${author}.${n} (line ${line})`)
     if (!pasts.length || !news.length) return []
-    return [`replica ${replica} received ${listing(news, news.length)} last, and nothing${isViewed ? " but a view" : ""} shows what it made of ` +
+    return [`replica ${replica} received ${listing(news, news.length)} last, and nothing${isViewed ? " but a view" : ""} shows how it applied ` +
       `${news.length === 1 ? "that" : "them"}: let each replica read at the end`]
   })
 }

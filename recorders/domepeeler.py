@@ -51,7 +51,7 @@ WITH_SIGNS = re.compile(r"[A-Za-z0-9_.@,-]+", re.ASCII)  # an id that is transla
 UUID = re.compile(r"[0-9A-Fa-f]{8}(-[0-9A-Fa-f]{4}){3}-[0-9A-Fa-f]{12}", re.ASCII)
 __tracebackhide__ = True  # pytest shows a refused call where the test makes it
 ONE_LOG = "one replica's log is no recording: merge the logs first"
-NOT_STOPPED = "one replica's log can't stop in a wrong call: it is judged only when the logs are merged"
+NOT_STOPPED = "one replica's log can't be judged after each call, but only when the logs are merged"
 MOST_NOTES, MOST_LETTERS = 20, 200  # of a recording, and of a note
 MOST_DELIVERED = 100  # calls of `delivered` of which the tool is told
 MOST_TRIES = 100  # of saving where another process saves too
@@ -440,7 +440,7 @@ class Recording:
         try:
             return words[0], subprocess.run([*words, *more], input=self.text().encode(), capture_output=True)
         except OSError as why:
-            raise RuntimeError(f"{_escaped(words[0])} cannot be run ({why.strerror}): name {whose} path in {variable}") from None
+            raise RuntimeError(f"{_escaped(words[0])} cannot be run ({why.strerror}): set {variable} to {whose} path") from None
 
     def _known(self, replica: int) -> int:
         if not _whole(replica, 0, len(self._replicas) - 1):
@@ -464,8 +464,8 @@ class Recording:
 
     def _room(self, replica: int, entries: int = 1) -> None:
         if self._replicas[replica].entries + entries > MOST_ENTRIES:
-            raise Full(f"replica {replica} has {self._replicas[replica].entries} entries, the most that a trace takes"
-                       + (f" is {MOST_ENTRIES}" if entries > 1 else ""))
+            raise Full(f"replica {replica} has {self._replicas[replica].entries} entries"
+                       + (f"; a trace takes at most {MOST_ENTRIES}" if entries > 1 else ", the most that a trace takes"))
 
     def _operation(self, replica: int, kind: str, response: Iterable[str], name: Optional[str] = None, position: Optional[int] = None,
                    change_id: Optional[Hashable] = None) -> int:
@@ -508,7 +508,7 @@ class Recording:
             return [lists[replica] for replica in range(len(self._replicas))]
         shown = list(lists)
         if isinstance(lists, Mapping) or len(shown) != len(self._replicas):
-            raise Refused(f"{wanted}of {len(shown)}")
+            raise Refused(f"{wanted}{len(shown)}")
         return shown
 
     def _said(self, replica: int, kind: str, response: Iterable[str], name: Optional[str], position: Optional[int],
@@ -547,8 +547,8 @@ class Recording:
         if names > MOST_NAMES:
             raise Full(f"a response of {names} names; a trace takes at most {MOST_NAMES}")
         if own.places + names > MOST_PLACES:
-            raise Full(f"{own.places + names} names over the responses of replica {replica}, "
-                       f"the most that a trace takes is {MOST_PLACES}")
+            raise Full(f"{own.places + names} names over the responses of replica {replica}; "
+                       f"a trace takes at most {MOST_PLACES}")
 
     def _name(self, given: Any) -> str:
         """The name in the trace: what is given, or of an id that is no name, a name that no other one has."""
@@ -624,8 +624,8 @@ class Recording:
                 last = max(n - 1 if other == author else past[other], seen[other] if seen else 0)
                 if first and first <= last:
                     raise NotCausal(f"not causal: {author}.{n} was applied at replica {replica} before {other}.{first}, "
-                                    f"which replica {author} had seen; {other}.{first} has to arrive first, or in the same update, "
-                                    "or the call for its update is missing" + (MORE_CHANGES if seen and other == author else ""))
+                                    f"which replica {author} had seen; {other}.{first} must arrive first or in the same update, "
+                                    "unless only the call for it is missing" + (MORE_CHANGES if seen and other == author else ""))
             ends[author] = n
         self._room(replica, len(ends))
         for author, n in ends.items():
@@ -791,8 +791,8 @@ def _hidden(lines: List[str]) -> List[str]:
             inserted.add(words[2])
             before = words[4].count(" ") - 1  # names in the list before it
             if int(words[3]) > before:
-                past_end.append(f"line {line}, {replica}.{n}: replica {replica} inserted {words[2]} at position {words[3]} of a list of "
-                                f"length {before}, which counts as its end: is that the position that was asked for?")
+                past_end.append(f"line {line}, {replica}.{n}: replica {replica} inserted {words[2]} at position {words[3]}, which counts as "
+                                f"the end of a list of length {before}: is that the position that was asked for?")
         elif kind == "del":
             deletes.append((words[2], f"line {line}, {replica}.{n}: replica {replica} deleted {words[2]}, which no line inserts, so no "
                                       "response shows whether it was deleted: is that its name, and was its insert recorded?"))
@@ -822,13 +822,13 @@ def _different(ends: List[_End]) -> List[str]:
     lacking = [(replica, _lacked(ends, replica)) for replica, one in enumerate(ends) if one.pasts]
     never = [f"{_listing(changes, count)} never arrived at replica {replica}" for replica, (changes, count) in lacking if count]
     is_one = sum(count for _, (_, count) in lacking) == 1
-    lost = "it was lost or is still held back" if is_one else "they were lost or are still held back"
+    lost = "it was lost or is held back" if is_one else "they were lost or are held back"
     if len(lists) < 2:
-        return [f"by this recording {_joined(never)}. If everything was delivered, {lost}"] if never else []
+        return [f"in this recording {_joined(never)}. If nothing was still on its way, {lost}"] if never else []
     differ = f"in the end replicas {_joined(map(str, sorted(sum(lists.values(), []))))} show different lists"
     same = [f"{_joined(map(str, one))} show the same one" for one in lists.values() if len(one) > 1]
     told = differ + (f" ({_joined(same)})" if same else "")
-    return [f"{told}: {_joined(never)} by this recording. If everything was delivered, {lost}" if never else told]
+    return [f"{told}: {_joined(never)} in this recording. If nothing was still on its way, {lost}" if never else told]
 
 
 def _lacked(ends: List[_End], replica: int) -> Tuple[List[str], int]:
@@ -854,7 +854,7 @@ def _unheard(ends: List[_End]) -> List[str]:
         if one.pasts and others:
             which = f"replica{'' if len(others) == 1 else 's'} {_joined(others)}"
             told.append(f"replica {replica} never hears of {which}: no receipt brings it an insert or a delete from there, so nothing "
-                        "shows what it makes of these. At the end of a session let everyone receive everything, and read")
+                        "shows how it applies these. At the end of a session let everyone receive everything, and read")
     return told
 
 
@@ -871,7 +871,7 @@ def _unshown(ends: List[_End]) -> List[str]:
             has = after
         if one.pasts and news:
             but = " but a view" if one.is_viewed else ""
-            told.append(f"replica {replica} received {_listing(news, len(news))} last, and nothing{but} shows what it made of "
+            told.append(f"replica {replica} received {_listing(news, len(news))} last, and nothing{but} shows how it applied "
                         f"{'that' if len(news) == 1 else 'them'}: let each replica read at the end")
     return told
 

@@ -145,19 +145,19 @@ impl Display for Refused {
             }
             Refused::NotCausal { replica, change: (author, n), lacking: (other, lacking) } => {
                 write!(f, "not causal: {author}.{n} was applied at replica {replica} before {other}.{lacking}, ")?;
-                write!(f, "which replica {author} had seen; {other}.{lacking} has to arrive first, ")?;
-                write!(f, "or in the same update, or the call for its update is missing")?;
+                write!(f, "which replica {author} had seen; {other}.{lacking} must arrive first or in the same update, ")?;
+                write!(f, "unless only the call for it is missing")?;
                 let more = if other == author { MORE_CHANGES } else { "" };
                 f.write_str(more)
             }
             Refused::Lists { lists, replicas } => {
-                write!(f, "delivered takes one list for each of the {replicas} replicas, not of {lists}")
+                write!(f, "delivered takes one list for each of the {replicas} replicas, not {lists}")
             }
             Refused::Others => {
                 write!(f, "one replica's log can't say that everything has arrived: the others are recorded elsewhere")
             }
             Refused::Stop => {
-                write!(f, "one replica's log can't stop in a wrong call: it is judged only when the logs are merged")
+                write!(f, "one replica's log can't be judged after each call, but only when the logs are merged")
             }
             Refused::Note => write!(f, "a note is one line of 1 to {MOST_LETTERS} printable characters"),
             Refused::Notes => write!(f, "a recording has {MOST_NOTES} notes, the most that it takes"),
@@ -171,8 +171,8 @@ impl Display for Refused {
                 write!(f, "a response of {names} names; a trace takes at most {MOST_NAMES}")
             }
             Refused::PlacesFull { replica, places } => {
-                write!(f, "{places} names over the responses of replica {replica}, ")?;
-                write!(f, "the most that a trace takes is {MOST_PLACES}")
+                write!(f, "{places} names over the responses of replica {replica}; ")?;
+                write!(f, "a trace takes at most {MOST_PLACES}")
             }
         }
     }
@@ -601,7 +601,7 @@ impl Recording {
 
     /// The report of the program at this path.
     pub fn judge_by(&self, program: &str) -> Result<String, String> {
-        let done = self.ask(program, &["verdict", "--json", "-"], "the program's path in DOMEPEELER", "no report")?;
+        let done = self.ask(program, &["verdict", "--json", "-"], "DOMEPEELER to the program's path", "no report")?;
         if !done.stdout.starts_with(b"{") {
             return Err(ended(program, &done, "no report"));
         }
@@ -632,7 +632,7 @@ impl Recording {
 
     /// The same without warnings.
     fn verdict_alone(&self, program: &str) -> Result<Verdict, String> {
-        let done = self.ask(program, &["verdict", "-"], "the program's path in DOMEPEELER", "no report")?;
+        let done = self.ask(program, &["verdict", "-"], "DOMEPEELER to the program's path", "no report")?;
         let read = Verdict::read(&String::from_utf8_lossy(&done.stdout));
         let verdict = read.ok_or_else(|| ended(program, &done, "no report"))?;
         let (is_accepted, head) = (verdict.is_accepted(), printed(program, &done)?);
@@ -759,7 +759,7 @@ impl Recording {
         let mut words = [goal, &["--language", LANGUAGE]].concat();
         words.extend(ranges.iter().flat_map(|range| ["--delivered", range]));
         words.push("-");
-        let done = self.ask(explainer, &words, "the tool's path in DOMEPEELER_EXPLAIN", "no words")?;
+        let done = self.ask(explainer, &words, "DOMEPEELER_EXPLAIN to the tool's path", "no words")?;
         if done.stdout.is_empty() {
             return Err(ended(explainer, &done, "no words"));
         }
@@ -828,7 +828,7 @@ impl Recording {
             return Err(ONE_LOG.to_string());
         }
         let shown = escaped(program);
-        let failed = |why: io::Error| format!("{shown} cannot be run ({why}): name {named}");
+        let failed = |why: io::Error| format!("{shown} cannot be run ({why}): set {named}");
         let mut child = Command::new(program)
             .args(words)
             .stdin(Stdio::piped())
@@ -1116,7 +1116,7 @@ impl<'a> Warned<'a> {
                     let before = names.matches(' ').count() as i64 - 1;
                     if i64::from(number(words[3])) > before {
                         warned.past_end.push(format!(
-                            "{named} inserted {} at position {} of a list of length {before}, which counts as its end: \
+                            "{named} inserted {} at position {}, which counts as the end of a list of length {before}: \
                              is that the position that was asked for?",
                             words[2], words[3]
                         ));
@@ -1182,9 +1182,9 @@ impl<'a> Warned<'a> {
             lacking.iter().map(|(replica, changes)| format!("{} never arrived at replica {replica}", listed(changes))).collect();
         let never = joined(&never);
         let count: usize = lacking.iter().map(|(_, changes)| changes.len()).sum();
-        let lost = if count == 1 { "it was lost or is still held back" } else { "they were lost or are still held back" };
+        let lost = if count == 1 { "it was lost or is held back" } else { "they were lost or are held back" };
         if lists.len() < 2 {
-            let told = format!("by this recording {never}. If everything was delivered, {lost}");
+            let told = format!("in this recording {never}. If nothing was still on its way, {lost}");
             return if count == 0 { vec![] } else { vec![told] };
         }
         let mut replicas: Vec<usize> = lists.iter().flat_map(|(_, of)| of).copied().collect();
@@ -1193,7 +1193,7 @@ impl<'a> Warned<'a> {
             lists.iter().filter(|(_, of)| of.len() > 1).map(|(_, of)| format!("{} show the same one", joined(of))).collect();
         let same = if same.is_empty() { String::new() } else { format!(" ({})", joined(&same)) };
         let told = format!("in the end replicas {} show different lists{same}", joined(&replicas));
-        vec![if count == 0 { told } else { format!("{told}: {never} by this recording. If everything was delivered, {lost}") }]
+        vec![if count == 0 { told } else { format!("{told}: {never} in this recording. If nothing was still on its way, {lost}") }]
     }
 
     /// The changes that never arrived at the replica, with their lines; none of an author of which it never hears.
@@ -1220,7 +1220,7 @@ impl<'a> Warned<'a> {
             if !others.is_empty() {
                 told.push(format!(
                     "replica {replica} never hears of replica{} {}: no receipt brings it an insert or a delete from there, \
-                     so nothing shows what it makes of these. At the end of a session let everyone receive everything, and read",
+                     so nothing shows how it applies these. At the end of a session let everyone receive everything, and read",
                     plural(others.len()),
                     joined(&others)
                 ));
@@ -1256,7 +1256,7 @@ impl<'a> Warned<'a> {
                 let what = if news.len() == 1 { "that" } else { "them" };
                 let but = if is_viewed { " but a view" } else { "" };
                 told.push(format!(
-                    "replica {replica} received {} last, and nothing{but} shows what it made of {what}: let each replica read at the end",
+                    "replica {replica} received {} last, and nothing{but} shows how it applied {what}: let each replica read at the end",
                     listed(&news)
                 ));
             }

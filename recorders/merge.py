@@ -141,7 +141,7 @@ class Log:
 
     def __init__(self, path):
         self.path, self.text = path, read(path)
-        self.count, self.unsure = self.text.count("\n"), "holds no number of lines"  # of what stands beside it; or nothing
+        self.count, self.unsure = self.text.count("\n"), "holds no line count"  # of what stands beside it; or nothing
         try:
             whole = content(path + SIDE).split(b"\n")[:-1]
         except OSError as why:
@@ -317,7 +317,7 @@ def main():
         if log.unsure:
             say("warning: %s%s %s, so nothing says whether %s is whole" % (log.path, SIDE, log.unsure, log.path))
         if log.lost():
-            say("warning: %s may have been cut at a line's end: it has %d lines, and by %s%s it was saved with %d"
+            say("warning: %s may have been cut at a line's end: it has %d lines, and %s%s says that %d were saved"
                 % (log.path, log.count, log.path, SIDE, log.saved))
     try:
         lines = lines_of([log.text for log in logs], paths)

@@ -59,10 +59,10 @@ BESIDE_DELETED = "0 ins b 0 : b|1 recv 0 1|1 ins c 1 : b c|0 recv 1 1|0 read : b
 def stop(line: int, doing: str, *others: int) -> str:
     """The lines of an explanation that say where to stop a debugger."""
     before = ", ".join(f"line {other}" for other in others)
-    doing += f"; if nothing is wrong there, stop where {'another' if len(others) == 1 else 'others'} arrived ({before})" if others else ""
+    doing += f"; if nothing is wrong there, stop at {'another arrival' if len(others) == 1 else 'other arrivals'} ({before})" if others else ""
     asked = f"if recording.lines() == {line - 1}: breakpoint()"
     where = "where your code reads the list" if "reads the list" in doing else "where your code begins to apply a change, local or remote"
-    return f"|In a debugger|stop before line {line}, where {doing}. In Python, put this {where}: {asked}"
+    return f"|In a debugger|stop before line {line} of the trace, where {doing}. In Python, put this {where}: {asked}"
 
 
 UNSHOWN = "let each replica read at the end"
@@ -81,14 +81,14 @@ WORDS = [
      "a: inserted by 0.1 (line 3)|b: inserted by 1.1 (line 4)|"
      "b arrived at replica 0 in line 5, a at replica 1 in line 6|"
      "Look at the order of concurrent inserts: a and b were inserted without knowing of each other, and were shown in two different orders. "
-     "Use a rule that gives the same order everywhere (by the replicas' numbers, say), and not the order in which they arrive." + stop(6, "replica 1 applies 0.1", 5)),
+     "Use a rule that gives the same order everywhere (such as the replicas' numbers), and not the order of arrival." + stop(6, "replica 1 applies 0.1", 5)),
     ("an insert that had seen the other", 2, "0 ins a 0 : a|1 recv 0 1|1 ins b 1 : a b|0 recv 1 1|0 read : b a",
      "refused 2: two responses can't be right together.|"
      "[a] before [b]: line 5 of the trace, 1.1: replica 1 inserted b at position 1, answered [a] [b]|"
      "[b] before [a]: line 7, 0.2: replica 0 read the list, answered [b] [a]|"
      "a arrived at replica 1 in line 4, b at replica 0 in line 6|"
-     "Look at where a replica places an incoming insert: 1.1 (line 5) inserted b when it had a, so their order was fixed, and yet two "
-     "responses differ in it. Often the number that orders inserts does not grow when changes arrive, or the neighbour is not found." + stop(6, "replica 0 applies 1.1", 4)),
+     "Look at where a replica places an incoming insert: 1.1 (line 5) inserted b when its replica had a, so their order was set, yet two "
+     "responses differ. Often the number that orders inserts does not grow when changes arrive, or the neighbour is not found." + stop(6, "replica 0 applies 1.1", 4)),
     ("three-way cycle", 3, THREE_WAY,
      "refused 3: three responses can't be right together. Any two of them can.|"
      "[x] before [b]: line 7 of the trace, 2.1: replica 2 inserted b at position 1, answered [x] [b]|"
@@ -100,7 +100,7 @@ WORDS = [
      "x arrived at replica 1 in line 4, x at replica 2 in line 5, a at replica 0 in line 9, b at replica 0 in line 10|"
      "Look at positions beside deleted elements: any two of 2.1, 0.3 and 1.1 fit together, but perhaps an insert lost its place "
      "because its neighbour was deleted elsewhere. The lines above say which elements each response no longer has.|"
-     "An editor whose server orders all changes, as Jupiter's does, promises only the weak list specification, and up to this line that "
+     "An editor whose server orders all changes, as Jupiter's does, promises only the weak list specification, and up to line 11 that "
      "holds. To ask for that only, use --weak."
      + stop(10, "replica 0 applies 2.1", 9, 5, 4)),
     ("an insert that arrives beside a deleted element", 2, BESIDE_DELETED,
@@ -109,11 +109,11 @@ WORDS = [
      "d: inserted by 0.3 (line 9)|c: inserted by 1.1 (line 5)|"
      "d was put behind b. When it arrived at replica 1 in line 10, b was already deleted there by 1.2 (line 8)|"
      "c arrived at replica 0 in line 6, d at replica 1 in line 10||Where to look|"
-     "Look at inserts beside deleted elements, if your replicas throw deleted elements away: the lines above name an insert that arrived after its "
-     "neighbour was deleted there. Without that neighbour nothing says where the insert belongs.|"
-     "Look at where a replica places an incoming insert: 0.3 (line 9) inserted d when it had c, so their order was fixed, and yet two "
-     "responses differ in it. Often the number that orders inserts does not grow when changes arrive, or the neighbour is not found. In an editor "
-     "that sends positions, the position of d was perhaps not adjusted for the delete 1.2 (line 8) of b, which replica 1 had and the author of d had not." + stop(10, "replica 1 applies 0.3", 6)),
+     "Look at inserts beside deleted elements, if your replicas throw deleted elements away: the lines above name an insert that arrived where its "
+     "neighbour had been deleted. Without that neighbour nothing says where the insert belongs.|"
+     "Look at where a replica places an incoming insert: 0.3 (line 9) inserted d when its replica had c, so their order was set, yet two "
+     "responses differ. Often the number that orders inserts does not grow when changes arrive, or the neighbour is not found. If the editor "
+     "sends positions, the position of d was perhaps not adjusted for the delete of b by 1.2 (line 8), which replica 1 had and the author of d had not." + stop(10, "replica 1 applies 0.3", 6)),
     ("an insert between two that are deleted by others", 3, "0 ins a 0 : a|0 ins b 1 : a b|1 recv 0 2|2 recv 0 2|2 ins c 1 : a c b|1 del a : b|"
      "0 del b : a|1 recv 0 3|1 read :|1 ins d 0 : d|1 recv 2 1|1 read : c d|2 recv 1 3|2 read : d c",
      "[d] before [c]: line 16 of the trace, 2.2: replica 2 read the list, answered [d] [c]|"
@@ -121,7 +121,7 @@ WORDS = [
      "c was put behind a and before b. When it arrived at replica 1 in line 13, a was already deleted there by 1.1 (line 8) and b was already deleted there by 0.3 "
      "(line 9)|c arrived at replica 1 in line 13, d at replica 2 in line 15"),
     ("a session that goes on", 2, f"{BESIDE_DELETED}|0 recv 1 2|0 read : d c|1 read : c d",
-     "When it went wrong|line 11 of the trace, 1.3: replica 1 read the list: up to line 10 the session is accepted; line 11 makes it `refused 2`|"
+     "When it went wrong|line 11 of the trace, 1.3: replica 1 read the list. Up to line 10 the session is accepted; line 11 leads to `refused 2`|"
      "before it: 1.2 (line 8) still fits; since then replica 1 received 0.3 (line 10)|"
      "in the end replicas 0 and 1 have every change and show different lists, though perhaps the same text||"
      "What they show: each element before the next, in a circle|"
@@ -130,12 +130,12 @@ WORDS = [
      "c arrived at replica 0 in line 6, d at replica 1 in line 10||"
      "Where to look" + stop(10, "replica 1 applies 0.3", 6)),
     ("a session that goes on, with one list in the end", 2, f"{BESIDE_DELETED}|0 recv 1 2|0 read : c d",
-     "When it went wrong|line 11 of the trace, 1.3: replica 1 read the list: up to line 10 the session is accepted; line 11 makes it `refused 2`|"
+     "When it went wrong|line 11 of the trace, 1.3: replica 1 read the list. Up to line 10 the session is accepted; line 11 leads to `refused 2`|"
      "before it: 1.2 (line 8) still fits; since then replica 1 received 0.3 (line 10)|"
      "in the end replicas 0 and 1 have every change and show the same list||Where to look" + stop(10, "replica 1 applies 0.3", 6)),
     ("a beginning that shows something else", 3, f"{THREE_WAY}|1 recv 0 2|1 recv 2 1|1 read : a b",
-     "refused 3: three responses can't be right together. Any two of them can. Of the whole trace the program says `refused 2`.||"
-     "When it went wrong|line 11 of the trace, 0.3: replica 0 read the list: up to line 10 the session is accepted; line 11 makes it "
+     "refused 3: three responses can't be right together. Any two of them can. The verdict on the whole trace is `refused 2`.||"
+     "When it went wrong|line 11 of the trace, 0.3: replica 0 read the list. Up to line 10 the session is accepted; line 11 leads to "
      "`refused 3`|"
      "before it: 0.2 (line 8) still fits; since then replica 0 received 1.1 (line 9), 2.1 (line 10)|"
      "in the end replicas 0 and 1 have every change and show different lists, though perhaps the same text||"
@@ -147,14 +147,14 @@ WORDS = [
      "x arrived at replica 1 in line 4, x at replica 2 in line 5, a at replica 0 in line 9, b at replica 0 in line 10||"
      "Where to look|"
      "Of the whole trace: Look at inserts beside deleted elements, if your replicas throw deleted elements away: the lines above name an insert that arrived "
-     "after its neighbour was deleted there. Without that neighbour nothing says where the insert belongs.|"
+     "where its neighbour had been deleted. Without that neighbour nothing says where the insert belongs.|"
      "Of the whole trace: Look at the order of concurrent inserts: a and b were inserted without knowing of each other, and were shown in two "
-     "different orders. Use a rule that gives the same order everywhere (by the replicas' numbers, say), and not the order in which they "
-     "arrive. In an editor that sends positions, the position of b was perhaps not adjusted for the delete 0.2 (line 8) of x, which replica 1 "
-     "had and the author of b had not; or the position of the delete was not adjusted for an insert.|"
+     "different orders. Use a rule that gives the same order everywhere (such as the replicas' numbers), and not the order of "
+     "arrival. If the editor sends positions, the position of b was perhaps not adjusted for the delete of x by 0.2 (line 8), which replica 1 "
+     "had and the author of b had not; or the position of the delete was not adjusted for another insert.|"
      "Look at positions beside deleted elements: any two of 2.1, 0.3 and 1.1 fit together, but perhaps an insert lost its place "
      "because its neighbour was deleted elsewhere. The lines above say which elements each response no longer has.|"
-     "An editor whose server orders all changes, as Jupiter's does, promises only the weak list specification, and up to this line that "
+     "An editor whose server orders all changes, as Jupiter's does, promises only the weak list specification, and up to line 11 that "
      "holds. To ask for that only, use --weak."
      + stop(10, "replica 0 applies 2.1", 9, 5, 4) + "||What the whole trace shows: each element before the next, in a circle|"
      "[a] before [b]: line 14, 1.2: replica 1 read the list, answered [a] [b]|"
@@ -166,18 +166,18 @@ WORDS = [
      "1 read : c a",
      "[a] before [c]: line 5 of the trace, 0.3: replica 0 inserted c at position 2, answered [a] b [c]|"
      "[c] before [a]: line 9, 1.3: replica 1 read the list, answered [c] [a]|c: inserted by 0.3 (line 5)|"
-     "c was put behind b, which was deleted by the time of 1.3 (line 9)|c arrived at replica 1 in line 6, a at replica 1 in line 6" + stop(6, "replica 1 applies 0.3")),
+     "c was put behind b, which was already deleted at 1.3 (line 9)|c arrived at replica 1 in line 6, a at replica 1 in line 6" + stop(6, "replica 1 applies 0.3")),
     ("an element between two that are deleted later", 2, "0 ins a 0 : a|0 ins b 1 : a b|0 ins c 1 : a c b|0 ins d 3 : a c b d|1 recv 0 4|"
      "1 read : a c b d|1 del a : c b d|1 del b : c d|1 read : d c",
-     "c was put behind a and before b, which were deleted by the time of 1.4 (line 11)"),
+     "c was put behind a and before b, which were already deleted at 1.4 (line 11)"),
     ("a ring of three that hear of one another", 3, "0 ins a 0 : a|1 ins b 0 : b|2 ins c 0 : c|0 recv 1 1|0 read : a b|1 recv 2 1|"
      "1 read : b c|2 recv 0 1|2 read : c a",
      "[a] before [b]: line 7 of the trace, 0.2: replica 0 read the list, answered [a] [b]|"
      "[b] before [c]: line 9, 1.2: replica 1 read the list, answered [b] [c]|"
      "[c] before [a]: line 11, 2.2: replica 2 read the list, answered [c] [a]|"
      "b arrived at replica 0 in line 6, c at replica 1 in line 8, a at replica 2 in line 10|"
-     "Look at how a replica orders elements when it has only some of them: any two of 0.2, 1.2 and 2.2 fit together. None of them leaves out "
-     "an element because it was deleted, so each replica had not received some yet. Often the rule that orders concurrent inserts is not the same everywhere."
+     "Look at how a replica orders elements when it has only some of them: any two of 0.2, 1.2 and 2.2 fit together. What each response "
+     "leaves out was not deleted by then, so its replica had not received it yet. Often the rule that orders concurrent inserts is not the same everywhere."
      + stop(10, "replica 2 applies 0.1", 8, 6)),
     ("an element that came along with what had seen it", 3, "0 ins a 0 : a|1 recv 0 1|1 read : a|1 ins b 1 : a b|2 recv 1 1|2 recv 1 2|"
      "2 recv 0 1|2 read : b a",
@@ -194,15 +194,15 @@ WORDS = [
      "line 7 of the trace, 2.1: replica 2 read the list|answered: b|it should hold, in any order: b [a]|"
      "before it: replica 2 did nothing, and received 1.1 (line 6)|Missing|"
      "[a] inserted by 0.1 (line 3), arrived at replica 1 in line 4 (1 recv 0 1), and from there arrived at replica 2 in line 6 "
-     "(2 recv 1 1)|[a] it has no receipt of its own at replica 2, and counts as arrived with 1.1 (line 5), whose author had it. If "
-     "each operation travels by itself, it had not arrived: that order is not causal|[a] no operation deletes it||Where to look|"
+     "(2 recv 1 1)|[a] 0.1 has no receipt of its own at replica 2, and counts as arrived with 1.1 (line 5), whose author had it. If "
+     "each operation travels by itself, 0.1 had not arrived, which is not causal|[a] no operation deletes it||Where to look|"
      "Look first at whether 0.1 was lost on its way to replica 2: no receipt there names it. If it was overtaken, look at the order in which "
-     "operations arrive. Apply an operation only after everything that its author had seen, or send both together. If the editor itself holds it "
-     f"back, write its receipt only when it is applied. {GUIDE} has both ways."),
+     "operations arrive. There are two ways: apply an operation only after everything that its author had seen, or send that with it; if the "
+     f"editor itself holds it back, write its receipt only when it is applied. {GUIDE} has both."),
     ("an element lost that arrived after what had seen it", 3,
      "0 ins a 0 : a|1 recv 0 1|1 ins b 1 : a b|2 recv 1 1|2 recv 0 1|2 read : b",
-     "line 8 of the trace, 2.1: replica 2 read the list|[a] 0.1's own receipt comes only in line 7 (2 recv 0 1). 1.1 overtook it in "
-     "line 6, though its author already had 0.1: that order is not causal|[a] no operation deletes it" + stop(6, "replica 2 applies 1.1")),
+     "line 8 of the trace, 2.1: replica 2 read the list|[a] 0.1's own receipt comes only in line 7 (2 recv 0 1). 1.1, whose author "
+     "already had 0.1, overtook it in line 6: that order is not causal|[a] no operation deletes it" + stop(6, "replica 2 applies 1.1")),
     ("an element lost that arrived by itself before", 3,
      "0 ins a 0 : a|2 recv 0 1|1 recv 0 1|1 ins b 1 : a b|2 recv 1 1|2 read : b",
      "[a] inserted by 0.1 (line 3), arrived at replica 2 in line 4 (2 recv 0 1)|[a] no operation deletes it"),
@@ -220,7 +220,7 @@ WORDS = [
     ("a deleted element shown, beside one that was there", 2, "0 ins a 0 : a|0 ins b 1 : a b|1 recv 0 2|1 read : a b|0 del b : a|1 recv 0 3|1 read : a b",
      "contents 1.2: this response has one element that should not be there.|answered: a [b]|it should hold, in any order: a|Extra|"
      "[b] inserted by 0.2 (line 4), arrived at replica 1 in line 5 (1 recv 0 2)|"
-     "[b] was put behind a, which was not deleted there when it arrived (line 5)|"
+     "[b] was put behind a, which was not deleted there when b arrived (line 5)|"
      "[b] deleted by 0.3 (line 7), arrived at replica 1 in line 8 (1 recv 0 3)"),
     ("a deleted element shown, beside one that was deleted", 2, "0 ins a 0 : a|1 recv 0 1|1 read : a|0 ins b 1 : a b|1 del a :|1 recv 0 2|1 read : b|"
      "0 del b : a|1 recv 0 3|1 read : b",
@@ -254,7 +254,7 @@ WORDS = [
      "[c] before [a]: line 7, 1.1: replica 1 showed a part of the list, answered [c] [a]"),
     ("accepted, with a view", 2, "0 ins a 0 : a|0 ins b 1 : a b|1 recv 0 2|1 view : b",
      "accepted, with a warning: all 3 responses fit one order of the elements.||What this verdict may hide|replica 1 received 0.2 (line 5) last, "
-     f"and nothing but a view shows what it made of that: {UNSHOWN}||The first order that fits all responses, with deleted elements|a b"),
+     f"and nothing but a view shows how it applied that: {UNSHOWN}||The first order that fits all responses, with deleted elements|a b"),
     ("past the end, elsewhere", 1, "0 ins a 0 : a|0 ins b 4294967295 : b a",
      "position 0.2: b does not stand where it was asked for.|"
      "line 4 of the trace, 0.2: replica 0 inserted b at position 4294967295|answered: [b] [a]|"
@@ -269,7 +269,7 @@ WORDS = [
      "position 1.1: c does not stand where it was asked for.|asked for: position 0, where [b] stands|found at: position 1||"
      "Where to look|"
      "Look at the numbers that order inserts at one place, if the editor has such (a clock, ids): c stands behind b, which replica 1 had "
-     "already. The number of c must be greater than that of b; perhaps it is not. Usual causes: the clock does not advance when changes arrive; ids "
+     "already. The number that c has must be greater than that of b; perhaps it is not. Usual causes: the clock does not advance when changes arrive; ids "
      'are compared as text, so "10" comes before "9".|If the editor has no such numbers: look at how the position that a user sees is mapped to a place '
      "in the editor's own list; and at whether the recorder writes the position that was asked for." + stop(6, "replica 1 inserts c")),
     ("a position before the one that was asked for, beside a deleted element", 1, "0 ins a 0 : a|0 ins b 1 : a b|0 del a : b|0 ins c 1 : c b",
@@ -281,7 +281,7 @@ WORDS = [
      "contents 1.3: this response lacks one element that replica 1 had by then.|answered: (nothing)|"
      "it should hold, in any order: [b]|before it: 1.2 (line 8) is still right; since then replica 1 received 0.3 (line 9)|"
      "Missing|[b] inserted by 0.2 (line 4), arrived at replica 1 in line 5 (1 recv 0 2)|"
-     "[b] was put behind a, which was not deleted there when it arrived (line 5)|[b] no operation deletes it||"
+     "[b] was put behind a, which was not deleted there when b arrived (line 5)|[b] no operation deletes it||"
      "Where to look|"
      "0.3 (line 7) deletes a, already deleted at replica 1 by 1.2 (line 8): look at what the editor does with a delete whose element is gone. It may "
      "have deleted b instead." + stop(9, "replica 1 applies 0.3")),
@@ -298,48 +298,46 @@ WORDS = [
      "Look at inserts beside deleted elements: when c arrived, its neighbour was already deleted there, as told above. An editor that throws deleted elements "
      "away too early finds no place for it, and loses it or holds it back for ever." + stop(9, "replica 1 applies 0.3")),
     ("an element lost beside two that are there", 2, "0 ins a 0 : a|0 ins b 1 : a b|0 ins c 1 : a c b|1 recv 0 3|1 read : a b",
-     "[c] was put behind a and before b, which were not deleted there when it arrived (line 6)"),
+     "[c] was put behind a and before b, which were not deleted there when c arrived (line 6)"),
     ("a change that a later one of its author overtook", 2, "0 ins a 0 : a|0 ins b 1 : a b|0 ins c 2 : a b c|1 recv 0 1|1 recv 0 3|1 read : a c|1 recv 0 2|"
      "1 read : a b c",
      "contents 1.1: this response lacks one element that replica 1 had by then.|Missing|"
      "[b] inserted by 0.2 (line 4), arrived at replica 1 in line 7 (1 recv 0 3)|"
      "[b] 0.2's own receipt comes only in line 9 (1 recv 0 2). 0.3 overtook it in line 7: that order is not causal|[b] no operation deletes it|"
-     "Look at the order in which operations arrive: 0.2 was overtaken, as told above. Apply an operation only after everything that its "
-     f"author had seen, or send both together. If the editor itself holds it back, write its receipt only when it is applied. {GUIDE} has both ways."
+     "Look at the order in which operations arrive: 0.2 was overtaken, as told above. There are two ways: apply an operation only after "
+     f"everything that its author had seen, or send that with it; if the editor itself holds it back, write its receipt only when it is applied. {GUIDE} has both."
      + stop(7, "replica 1 applies 0.3")),
     ("a change without a receipt, as each other of its author has one", 2, "0 ins a 0 : a|0 ins b 1 : a b|0 ins c 2 : a b c|0 ins d 3 : a b c d|1 recv 0 1|"
      "1 read : a|1 recv 0 3|1 read : a c|1 recv 0 4|1 read : a c d",
-     "[b] 0.2 has no receipt of its own at replica 1, though each other change of replica 0 has one. It was lost, or 0.3 overtook it in line 9"),
+     "[b] 0.2 has no receipt of its own at replica 1, though all other changes of replica 0 have one. It was lost, or 0.3 overtook it in line 9"),
     ("one receipt for several changes of an author", 2, "0 ins a 0 : a|0 ins b 1 : a b|0 ins c 2 : a b c|1 recv 0 3|1 read : a c",
      "[b] inserted by 0.2 (line 4), arrived at replica 1 in line 6 (1 recv 0 3)|"
-     "[b] was put behind a, which was not deleted there when it arrived (line 6)|[b] no operation deletes it||Where to "
+     "[b] was put behind a, which was not deleted there when b arrived (line 6)|[b] no operation deletes it||Where to "
      "look|It looks as if 0.2 (line 4) was not applied at replica 1: lost, or held back, or `received` is called before the change is applied.|No "
      "receipt at replica 1 names 0.2 (line 4): the recording counts it as arrived with 0.3 (line 5). If each of your changes has a receipt of its own, "
      "0.3 (line 5) overtook it, or it was lost."),
     ("a change that is lost before others of a server's order", 3, "0 ins a 0 : a|0 ins b 0 : b a|1 recv 0 1|1 read : a|1 ins c 1 : a c|2 recv 0 1|"
      "2 ins y 1 : a y|0 recv 2 1|0 recv 1 2|0 read : b a y c|1 recv 2 1|1 read : a c y|0 ins d 4 : b a y c d|0 ins e 5 : b a y c d e|1 recv 0 4|"
      "1 read : a c y d|1 recv 0 5|1 read : a c y d e",
-     "Look first at whether 0.2 (line 4) was lost on its way to replica 1, or overtaken: no receipt there names it, though each other change of "
-     "replica 0 has one. In an editor that sends positions, later changes then land in the wrong place.|"
+     "Look first at whether 0.2 (line 4) was lost on its way to replica 1, or overtaken: no receipt there names it, though all other changes of "
+     "replica 0 have one. In an editor that sends positions, later changes then land in the wrong place.|"
      "Look at the order of concurrent inserts: c and y were inserted without knowing of each other, and were shown in two different orders. Use a "
-     "rule that gives the same order everywhere (by the replicas' numbers, say), and not the order in which they arrive."),
+     "rule that gives the same order everywhere (such as the replicas' numbers), and not the order of arrival."),
     ("a delete that meets an insert and a delete which did not know each other", 2, "0 ins a 0 : a|0 ins b 1 : a b|0 ins c 2 : a b c|1 recv 0 3|"
      "1 read : a b c|0 del a : b c|1 ins d 3 : a b c d|0 recv 1 2|0 read : b c d|1 del c : a b d|0 recv 1 3|0 read : b c",
      "It looks as if 1.3 (line 12) deleted d instead of c: look at how a delete finds its element where it is applied, and at whether the recorder "
-     "names the element that was deleted. In an editor that sends positions, the position of 1.3 was perhaps not adjusted for the delete 0.4 (line 8) "
-     "of a, which the author of 1.3 had not seen; or an earlier insert was not adjusted for a delete." + stop(13, "replica 0 applies 1.3")),
+     "names the element that was deleted. If the editor sends positions, the position of 1.3 was perhaps not adjusted for the delete of a by 0.4 (line 8), which the author of 1.3 had not seen; or an earlier insert was not adjusted for another delete." + stop(13, "replica 0 applies 1.3")),
     ("a delete that takes what is deleted later", 2, "0 ins a 0 : a|0 ins b 1 : a b|1 recv 0 2|1 read : a b|1 del a : b|0 ins c 0 : c a b|0 recv 1 2|"
      "0 read : a b|0 del c : a b",
      "It looks as if 1.2 (line 7) deleted c instead of a: look at how a delete finds its element where it is applied, and at whether the recorder "
-     "names the element that was deleted. In an editor that sends positions, the position of 1.2 was perhaps not adjusted for the insert 0.3 (line 8) "
-     "of c, which the author of 1.2 had not seen." + stop(9, "replica 0 applies 1.2")),
+     "names the element that was deleted. If the editor sends positions, the position of 1.2 was perhaps not adjusted for the insert of c by 0.3 (line 8), which the author of 1.2 had not seen." + stop(9, "replica 0 applies 1.2")),
     ("an insert that another one at its place has shifted", 2, "0 ins b 0 : b|0 ins c 0 : c b|1 ins a 0 : a|1 recv 0 1|1 read : a b|1 recv 0 2|"
      "1 read : a b c",
-     "Look at where a replica places an incoming insert: 0.2 (line 4) inserted c when it had b, so their order was fixed, and yet two responses "
-     "differ in it. Often the number that orders inserts does not grow when changes arrive, or the neighbour is not found. a was inserted at the same "
+     "Look at where a replica places an incoming insert: 0.2 (line 4) inserted c when its replica had b, so their order was set, yet two responses "
+     "differ. Often the number that orders inserts does not grow when changes arrive, or the neighbour is not found. a was inserted at the same "
      "place as c, and neither author had seen the other's insert. Look also at which comes first there." + stop(8, "replica 1 applies 0.2", 6)),
     ("a receipt that comes before the change is applied", 2, "0 ins a 0 : a|1 recv 0 1|1 read : a|0 ins b 1 : a b|0 del a : b|1 recv 0 3|1 read : a",
-     "contents 1.2: this response lacks one element that replica 1 had by then and has one element that should not be there.||"
+     "contents 1.2: this response lacks one element that replica 1 had by then, and has one element that should not be there.||"
      "Where to look|"
      "It looks as if 0.2 (line 6) and 0.3 (line 7) were not applied at replica 1: lost, or held back, or `received` is called before the change "
      "is applied." + stop(8, "replica 1 applies 0.3")),
@@ -350,36 +348,35 @@ WORDS = [
      "late, or names another operation." + stop(8, "replica 1 reads the list")),
     ("an element lost that was there before, beside one that came", 2, "0 ins a 0 : a|1 recv 0 1|1 read : a|0 ins b 1 : a b|1 recv 0 2|1 read : b",
      "Missing|[a] no operation deletes it||Where to look|"
-     "Look at the recorder first: `received` must be called right after the change is applied. Then at the transport: no change may arrive before "
-     f"those that its author had seen. Then at the editor: does it lose a change, apply it twice, or apply it to another element? {GUIDE} says where the calls "
+     "Look in this order. Recorder: `received` must be called right after the change is applied. Transport: no change may arrive before "
+     f"those that its author had seen. Editor: does it lose a change, apply it twice, or apply it to another element? {GUIDE} says where the calls "
      "go." + stop(7, "replica 1 applies 0.2")),
     ("a wrong response before the one that the program names", 2, "1 ins a 0 : a|1 read :|0 recv 1 1|0 read : a|0 read :|1 read : a",
-     "contents 1.2: this response lacks one element that replica 1 had by then. Of the whole trace the program says `contents 0.2`.||When it went wrong|"
-     "line 4 of the trace, 1.2: replica 1 read the list: up to line 3 the session is accepted; line 4 makes it `contents 1.2`|"
+     "contents 1.2: this response lacks one element that replica 1 had by then. The verdict on the whole trace is `contents 0.2`.||When it went wrong|"
+     "line 4 of the trace, 1.2: replica 1 read the list. Up to line 3 the session is accepted; line 4 leads to `contents 1.2`|"
      "the first 4 lines are enough to show it (`head -4`)||The response|line 4 of the trace, 1.2: replica 1 read the list|answered: (nothing)|"
      "[a] inserted by 1.1 (line 3), an earlier operation of replica 1" + stop(4, "replica 1 reads the list")
      + "||What the program names in the whole trace|line 7, 0.2: replica 0 read the list, answered (nothing)||The list specifications|"
      "strong and weak fail"),
     ("a delete that meets an insert which did not know it", 2, "0 ins a 0 : a|0 ins b 1 : a b|0 ins c 2 : a b c|1 recv 0 3|1 read : a b c|1 del a : b c|"
      "0 ins d 2 : a b d c|1 recv 0 4|1 read : b c d",
-     "Look at where a replica places an incoming insert: 0.4 (line 9) inserted d when it had c, so their order was fixed, and yet two "
-     "responses differ in it. Often the number that orders inserts does not grow when changes arrive, or the neighbour is not found. In an editor "
-     "that sends positions, the position of d was perhaps not adjusted for the delete 1.2 (line 8) of a, which replica 1 had and the author of d had not." + stop(10, "replica 1 applies 0.4", 6)),
+     "Look at where a replica places an incoming insert: 0.4 (line 9) inserted d when its replica had c, so their order was set, yet two "
+     "responses differ. Often the number that orders inserts does not grow when changes arrive, or the neighbour is not found. If the editor "
+     "sends positions, the position of d was perhaps not adjusted for the delete of a by 1.2 (line 8), which replica 1 had and the author of d had not." + stop(10, "replica 1 applies 0.4", 6)),
     ("a delete that becomes nothing beside an insert that its author did not know", 2, "0 ins a 0 : a|1 recv 0 1|1 read : a|0 del a :|"
      "1 ins b 0 : b a|1 recv 0 2|1 read : b a",
      "It looks as if 0.2 (line 6) was not applied at replica 1: lost, or held back, or `received` is called before the change is applied. "
-     "In an editor that sends positions, the position of 0.2 was perhaps not adjusted for the insert 1.2 (line 7) of b, which the author of 0.2 "
+     "If the editor sends positions, the position of 0.2 was perhaps not adjusted for the insert of b by 1.2 (line 7), which the author of 0.2 "
      "had not seen."),
     ("a delete of one of two that were inserted at one place", 2, "0 ins a 0 : a|0 del a :|1 ins b 0 : b|1 recv 0 1|1 read : a b|1 recv 0 2|1 read : a",
      "It looks as if 0.2 (line 4) deleted b instead of a: look at how a delete finds its element where it is applied, and at whether the recorder "
-     "names the element that was deleted. In an editor that sends positions, the position of 0.2 was perhaps not adjusted for the insert 1.1 (line 5) "
-     "of b, which the author of 0.2 had not seen. b was inserted at the same place as a, and neither author had seen the other's insert. Look also at which comes first there."),
+     "names the element that was deleted. If the editor sends positions, the position of 0.2 was perhaps not adjusted for the insert of b by 1.1 (line 5), which the author of 0.2 had not seen. b was inserted at the same place as a, and neither author had seen the other's insert. Look also at which comes first there."),
     ("doubled", 2, "0 ins a 0 : a|0 ins b 1 : a b|1 ins b 0 : b",
      "doubled: 0.2 and 1.1 insert the same name, b. An element is known by its name, so nothing else was judged.|"
      "line 4 of the trace, 0.2: replica 0 inserted b at position 1|line 5, 1.1: replica 1 inserted b at position 0||"
      "Where to look|"
      "Look at the recorder first: each inserted element needs a name of its own, for ever. Equal letters are different elements, each element "
-     "of a paste is a new one, and so is an element that undo brings back, where the editor makes a new one.||The list specifications|"
+     "of a paste is a new one, and so is one that undo brings back, if the editor makes it anew.||The list specifications|"
      "neither the strong nor the weak one was judged: both know an element by its name"),
 ]
 
@@ -389,15 +386,15 @@ ALONE = "weak holds, strong doesn't: this passes, as the weak list specification
 FAILS_WEAK = [
     # Where strong failed before, the session went wrong where weak fails.
     ("opposite orders after the cycle", f"{THREE_WAY}|1 recv 0 2|1 recv 2 1|1 read : a b|2 recv 0 2|2 recv 1 1|2 read : a b", "refused 2: ", [
-        "When it went wrong", "line 14 of the trace, 1.2: replica 1 read the list: up to line 13 weak holds; line 14 makes it `refused 2`",
+        "When it went wrong", "line 14 of the trace, 1.2: replica 1 read the list. Up to line 13 weak holds; line 14 leads to `refused 2`",
         "before it: 1.1 (line 6) agrees with all responses up to then; since then replica 1 received 0.2 (line 12), 2.1 (line 13)",
         "[a] before [b]: line 14, 1.2: replica 1 read the list, answered [a] [b]",
         "[b] before [a]: line 11, 0.3: replica 0 read the list, answered [b] [a]", "strong and weak fail"]),
     ("a lost element after the cycle", f"{THREE_WAY}|1 recv 0 2|1 recv 2 1|1 read : b|0 read : b", "contents 1.2: ", [
-        "When it went wrong", "line 14 of the trace, 1.2: replica 1 read the list: up to line 13 weak holds; line 14 makes it `contents 1.2`",
+        "When it went wrong", "line 14 of the trace, 1.2: replica 1 read the list. Up to line 13 weak holds; line 14 leads to `contents 1.2`",
         "the first 14 lines are enough to show it (`head -14`)"]),
     ("a wrong position after the cycle", f"{THREE_WAY}|2 ins c 0 : x c b|0 read : b", "position 2.2: ", [
-        "When it went wrong", "line 12 of the trace, 2.2: replica 2 inserted c at position 0: up to line 11 weak holds; line 12 makes it "
+        "When it went wrong", "line 12 of the trace, 2.2: replica 2 inserted c at position 0. Up to line 11 weak holds; line 12 leads to "
         "`position 2.2`", "asked for: position 0, where [x] stands"]),
     ("a name twice", "0 ins a 0 : a|1 ins a 0 : a", "doubled: ", ["neither the strong nor the weak one was judged: both know an element by its "
                                                                  "name"])]
@@ -467,7 +464,7 @@ FAULTS = [
     (b"trace 1\nreplicas 2\n0 ins a 0 : a\n1 recv 0 2\n", "line 4: not yet, have 1",
      "replica 0 has 1 operations in the lines before, and operation 2 is not among them"),
     (b"trace 1\nreplicas 2\n0 ins a 0 : a\n0 recv 0 1\n", "line 4: own receipt",
-     "a replica receives what others did: its own operations it has without a receipt"),
+     "a replica receives what others did: it has its own operations without a receipt"),
     (b"trace 1\nreplicas 1\n" + b"0 read :\n" * 16385, "line 16387: entries full",
      "a replica has at most 16,384 entries, receipts counted: record shorter sessions, or fewer reads"),
 ]
@@ -534,10 +531,10 @@ PLANTED = {
 LOST_MESSAGES = {"lost": (150, 60, 1.0), "dropped": (150, 80, 0.97)}
 
 NO_INSERT = ", which no line inserts, so no response shows whether it was deleted: is that its name, and was its insert recorded?"
-UNHEARD = ("no receipt brings it an insert or a delete from there, so nothing shows what it makes of these. At the end of a session let "
+UNHEARD = ("no receipt brings it an insert or a delete from there, so nothing shows how it applies these. At the end of a session let "
            "everyone receive everything, and read")
-IT, THEY = "If everything was delivered, it was lost or is still held back", "If everything was delivered, they were lost or are still held back"
-PAST_END = "which counts as its end: is that the position that was asked for?"
+IT, THEY = "If nothing was still on its way, it was lost or is held back", "If nothing was still on its way, they were lost or are held back"
+PAST_END = "is that the position that was asked for?"
 # By name: how many replicas, the entries of an accepted recording, and what is warned of, a line each.
 WARNED = [
     ("nothing recorded", 3, "", "nothing was recorded: the trace has no entry, so the verdict says nothing of an editor"),
@@ -550,42 +547,42 @@ WARNED = [
      "|".join(f"line {i + 4}, 0.{i + 1}: replica 0 deleted a{i}{NO_INSERT}" for i in range(5))
      + "|and 2 more deletes of what no line inserts"),
     ("an insert past the end", 1, "0 ins a 0 : a|0 ins b 2 : a b|0 ins c 2 : a b c|0 ins d 4294967295 : a b c d",
-     f"line 4, 0.2: replica 0 inserted b at position 2 of a list of length 1, {PAST_END}|"
-     f"line 6, 0.4: replica 0 inserted d at position 4294967295 of a list of length 3, {PAST_END}"),
+     f"line 4, 0.2: replica 0 inserted b at position 2, which counts as the end of a list of length 1: {PAST_END}|"
+     f"line 6, 0.4: replica 0 inserted d at position 4294967295, which counts as the end of a list of length 3: {PAST_END}"),
     ("two that never hear of one another", 2, "0 ins a 0 : a|1 ins b 0 : b|0 read : a|1 read : b",
      f"in the end replicas 0 and 1 show different lists|replica 0 never hears of replica 1: {UNHEARD}|replica 1 never hears of replica 0: {UNHEARD}"),
     ("one that never hears of three others", 4, "0 ins a 0 : a|1 del a :|1 recv 0 1|2 ins c 0 : c|2 recv 1 1|2 recv 0 1|0 recv 2 1|"
      "0 recv 1 1|1 recv 2 1|3 read :",
      f"in the end replicas 0, 1, 2 and 3 show different lists (1 and 3 show the same one)|replica 3 never hears of replicas 0, 1 and 2: {UNHEARD}|"
-     f"replica 0 received 2.1 (line 9) and 1.1 (line 10) last, and nothing shows what it made of them: {UNSHOWN}|"
-     f"replica 1 received 0.1 (line 5) and 2.1 (line 11) last, and nothing shows what it made of them: {UNSHOWN}|"
-     f"replica 2 received 1.1 (line 7) and 0.1 (line 8) last, and nothing shows what it made of them: {UNSHOWN}"),
+     f"replica 0 received 2.1 (line 9) and 1.1 (line 10) last, and nothing shows how it applied them: {UNSHOWN}|"
+     f"replica 1 received 0.1 (line 5) and 2.1 (line 11) last, and nothing shows how it applied them: {UNSHOWN}|"
+     f"replica 2 received 1.1 (line 7) and 0.1 (line 8) last, and nothing shows how it applied them: {UNSHOWN}"),
     ("one that hears of a read alone", 2, "0 read :|1 recv 0 1|1 read :|0 ins a 0 : a",
      f"in the end replicas 0 and 1 show different lists|replica 1 never hears of replica 0: {UNHEARD}"),
     ("all hear by way of a third", 3, "0 ins a 0 : a|2 recv 0 1|2 read : a|1 ins b 0 : b|1 recv 2 1|2 recv 1 1|2 read : b a|0 recv 2 2|"
      "0 read : b a|1 read : b a", ""),
     ("one that hears at the end", 2, "0 ins a 0 : a|1 read :|1 recv 0 1", "in the end replicas 0 and 1 show different lists|"
-     f"replica 1 received 0.1 (line 5) last, and nothing shows what it made of that: {UNSHOWN}"),
+     f"replica 1 received 0.1 (line 5) last, and nothing shows how it applied that: {UNSHOWN}"),
     ("one that hears at the end, and shows a part", 2, "0 ins a 0 : a|1 recv 0 1|1 view :",
-     f"replica 1 received 0.1 (line 4) last, and nothing but a view shows what it made of that: {UNSHOWN}"),
+     f"replica 1 received 0.1 (line 4) last, and nothing but a view shows how it applied that: {UNSHOWN}"),
     ("a receipt before a view and one behind it", 2, "0 ins a 0 : a|1 read :|1 recv 0 1|1 view : a|0 ins b 0 : b a|1 recv 0 2",
-     "in the end replicas 0 and 1 show different lists|replica 1 received 0.1 (line 5) and 0.2 (line 8) last, and nothing shows what it made of "
+     "in the end replicas 0 and 1 show different lists|replica 1 received 0.1 (line 5) and 0.2 (line 8) last, and nothing shows how it applied "
      f"them: {UNSHOWN}"),
     ("a list between a receipt and a view", 2, "0 ins a 0 : a|1 recv 0 1|1 read : a|1 view : a", ""),
     ("one that reads is not heard of", 2, "0 ins a 0 : a|1 recv 0 1|1 read : a", ""),
     ("a delete before its insert", 2, "0 ins a 0 : a|1 del a :|1 recv 0 1|1 read :|0 recv 1 1|0 read :", ""),
     ("an insert that never arrives", 2, "0 ins a 0 : a|1 recv 0 1|1 read : a|0 ins b 1 : a b|1 read : a",
-     f"in the end replicas 0 and 1 show different lists: 0.2 (line 6) never arrived at replica 1 by this recording. {IT}"),
+     f"in the end replicas 0 and 1 show different lists: 0.2 (line 6) never arrived at replica 1 in this recording. {IT}"),
     ("a delete that never arrives", 2, "0 ins a 0 : a|1 recv 0 1|0 del a :|1 read : a",
-     f"in the end replicas 0 and 1 show different lists: 0.2 (line 5) never arrived at replica 1 by this recording. {IT}"),
+     f"in the end replicas 0 and 1 show different lists: 0.2 (line 5) never arrived at replica 1 in this recording. {IT}"),
     ("an insert and its delete that never arrive", 2, "0 ins a 0 : a|1 recv 0 1|0 ins b 1 : a b|0 del b : a|1 read : a",
-     f"by this recording 0.2 (line 5) and 0.3 (line 6) never arrived at replica 1. {THEY}"),
+     f"in this recording 0.2 (line 5) and 0.3 (line 6) never arrived at replica 1. {THEY}"),
     ("changes that never arrive, at two replicas", 3, "0 ins a 0 : a|1 recv 0 1|2 recv 0 1|1 read : a|2 read : a|0 ins b 0 : b a|0 ins c 0 : c b a|"
      "0 ins d 0 : d c b a|0 ins e 0 : e d c b a|2 recv 0 3|2 read : c b a",
      "in the end replicas 0, 1 and 2 show different lists: 0.2 (line 8), 0.3 (line 9), 0.4 (line 10) and 1 more never arrived at replica 1 and "
-     f"0.4 (line 10) and 0.5 (line 11) never arrived at replica 2 by this recording. {THEY}"),
+     f"0.4 (line 10) and 0.5 (line 11) never arrived at replica 2 in this recording. {THEY}"),
     ("one that makes nothing of what came last", 2, "0 ins a 0 : a|1 recv 0 1|1 read : a|0 ins b 1 : a b|0 read : a b|1 recv 0 3",
-     "in the end replicas 0 and 1 show different lists|replica 1 received 0.3 (line 8) last, and nothing shows what it made of that: "
+     "in the end replicas 0 and 1 show different lists|replica 1 received 0.3 (line 8) last, and nothing shows how it applied that: "
      f"{UNSHOWN}"),
     ("one that receives what it has", 2, "0 ins a 0 : a|1 recv 0 1|1 read : a|0 read : a|1 recv 0 2|1 recv 0 1", ""),
     ("lists in other orders", 2, "0 ins a 0 : a|0 ins b 1 : a b|1 recv 0 2|1 read : a b", ""),
@@ -596,15 +593,15 @@ BESIDE = [
     (b"5", ""),
     (b"5\n3 a.py:1\n7\n", ""),
     (b"5\n\xff\0", ""),
-    (b"7\n5 a.py:1\n", "the trace may have been cut at a line's end: it has 5 lines, and by {} it was saved with 7"),
-    (b"\n5\n", "{} holds no number of lines, so nothing says whether the trace is whole"),
-    (b"5 a.py:1\n", "{} holds no number of lines, so nothing says whether the trace is whole"),
-    (b"7\n", "the trace may have been cut at a line's end: it has 5 lines, and by {} it was saved with 7"),
-    (b"4\n", "the trace has 5 lines, and by {} it was saved with 4: is that file of another trace?"),
-    (b"", "{} holds no number of lines, so nothing says whether the trace is whole"),
-    (b"\xff\n", "{} holds no number of lines, so nothing says whether the trace is whole"),
-    (b"-5\n", "{} holds no number of lines, so nothing says whether the trace is whole"),
-    (b"9" * 5000, "the trace may have been cut at a line's end: it has 5 lines, and by {} it was saved with " + "9" * 64),
+    (b"7\n5 a.py:1\n", "the trace may have been cut at a line's end: it has 5 lines, and {} says that 7 were saved"),
+    (b"\n5\n", "{} holds no line count, so nothing says whether the trace is whole"),
+    (b"5 a.py:1\n", "{} holds no line count, so nothing says whether the trace is whole"),
+    (b"7\n", "the trace may have been cut at a line's end: it has 5 lines, and {} says that 7 were saved"),
+    (b"4\n", "the trace has 5 lines, and {} says that 4 were saved: is that file of another trace?"),
+    (b"", "{} holds no line count, so nothing says whether the trace is whole"),
+    (b"\xff\n", "{} holds no line count, so nothing says whether the trace is whole"),
+    (b"-5\n", "{} holds no line count, so nothing says whether the trace is whole"),
+    (b"9" * 5000, "the trace may have been cut at a line's end: it has 5 lines, and {} says that " + "9" * 64 + " were saved"),
 ]
 
 # A trace whose explanation names lines 3, 4, 5 and 7, and not 6; and by name what the file beside it holds, and the section of places.
@@ -641,7 +638,7 @@ Only `delivered` (line 10) says that 0.2 (line 6) arrived at replica 1; no respo
 0.3 (line 7), which came later, perhaps waits for it. Look at what keeps changes waiting.
 
 In a debugger
-stop before line 6, where replica 0 inserts b, and follow that to replica 1. In Python, put this where your code begins to apply a change, local or remote: \
+stop before line 6 of the trace, where replica 0 inserts b, and follow 0.2 to replica 1. In Python, put this where your code begins to apply a change, local or remote: \
 if recording.lines() == 5: breakpoint()
 
 The list specifications
@@ -830,7 +827,7 @@ def hidden_of(text: str, report: dict) -> list:
 
 def hidden_told(told: str) -> list:
     """What some lines of an explanation say of that."""
-    return sorted(re.findall(r"^  (\S+) was put ((?:behind|before) .*), which (?:was|were) deleted by the time of (\d+\.\d+) ", told, re.MULTILINE))
+    return sorted(re.findall(r"^  (\S+) was put ((?:behind|before) .*), which (?:was|were) already deleted at (\d+\.\d+) ", told, re.MULTILINE))
 
 
 def beside_told(told: str) -> list:
@@ -858,7 +855,7 @@ def said_first(tally: Tally, program: str) -> None:
     for replicas, entries, wanted in WRONG_DELETES:
         got = explain(program, ["-"], text_of(replicas, entries).encode())
         first, *others = paragraph(got.out.decode(), "Where to look").splitlines()
-        is_said = bool(wanted) and first.startswith(f"  {wanted}") and bool(others) and others[-1].startswith("  If that is not the cause: ")
+        is_said = bool(wanted) and first.startswith(f"  {wanted}") and bool(others) and bool(re.match("  If (that|none of these) is (not )?the cause: ", others[-1]))
         tally.check(f"wrong delete: {entries}", got.out.startswith(b"contents ") and is_said == bool(wanted)
                     and (is_said or " instead of " not in got.out.decode()), got)
 
@@ -881,7 +878,7 @@ def beginning(tally: Tally, program: str, text: str, report: dict, said: str) ->
     titles = [line for line in front.splitlines() if line.startswith("What the")]
     tally.check("refused: under which title", titles == ["What they show: each element before the next, in a circle"], said)
     others = " too, and names other responses" if behind["k"] == report["k"] else ""
-    ending = f" Of the whole trace the program says `refused {report['k']}`{others}."
+    ending = f" The verdict on the whole trace is `refused {report['k']}`{others}."
     tally.check("refused: the whole trace's number", said.splitlines()[0].endswith(ending) == bool(wanted[1:])
                 and said.startswith(f"refused {behind['k']}: "), said)
     return "".join(lines[:last]), behind
@@ -905,10 +902,10 @@ def sooner(tally: Tally, program: str, text: str, report: dict, said: str) -> tu
     told = paragraph(said, "When it went wrong").splitlines()
     wanted = count < max(named)
     is_right = bool(told) and told[0].startswith(f"  line {count} of the trace, ") and (
-        first["verdict"] == "refused" or told[1:] == [f"  the first {count} lines are enough to show it (`head -{count}`)"]) and told[0].endswith(f": up to line {count - 1} the session is accepted; line {count} makes it `{of_first}`")
+        first["verdict"] == "refused" or told[1:] == [f"  the first {count} lines are enough to show it (`head -{count}`)"]) and told[0].endswith(f". Up to line {count - 1} the session is accepted; line {count} leads to `{of_first}`")
     tally.check("a fault: when it went wrong", is_right if wanted else not told, f"{text}{report}\n{said}")
     headline, is_other = said.splitlines()[0], of_whole != of_first
-    tally.check("a fault: its headline", headline.startswith(of_first.partition(" ")[0]) and headline.endswith(f" Of the whole trace the program says `{of_whole}`.") == is_other
+    tally.check("a fault: its headline", headline.startswith(of_first.partition(" ")[0]) and headline.endswith(f" The verdict on the whole trace is `{of_whole}`.") == is_other
                 and ("the whole trace" in headline) == is_other, f"{text}{report}\n{said}")
     tally.check("a fault: what the whole trace names", bool(paragraph(said, "What the program names in the whole trace")) == is_other,
                 f"{text}{report}\n{said}")
@@ -1025,7 +1022,7 @@ def places(tally: Tally, program: str, folder: str) -> None:
     smaller = Path(folder, "smaller.trace")
     got = explain(program, ["--small", str(smaller), str(path)]).out.decode()
     tally.check("places: of a log", paragraph(got, "In your log") == "  my.log.1:1: line 3\n  my.out:2: line 4\n  my.tsv:2: line 5\n  deep/my.ndjson:3: line 7" and
-                paragraph(got, "In a debugger") == "  stop before line 7, where replica 1 reads the list. The editor then writes deep/my.ndjson:3.", got)
+                paragraph(got, "In a debugger") == "  stop before line 7 of the trace, where replica 1 reads the list. The editor then writes deep/my.ndjson:3.", got)
     kept = smaller.read_text().splitlines()[2:], Path(f"{smaller}.lines").read_text()
     tally.check("places: of a small trace", kept == (["0 ins a 0 : a", "1 recv 0 1", "1 read : a", "1 read :"],
                                                    "6\n3 my.log.1:1\n4 my.out:2\n5 my.tsv:2\n6 deep/my.ndjson:3\n"), kept)
@@ -1062,7 +1059,7 @@ def places(tally: Tally, program: str, folder: str) -> None:
     side.write_text("6\n5 a.py:1, called from b.py:9\n")
     got = explain(program, [str(path)])
     tally.check("places: in a warning, the nearest", warned(got) == [
-        f"in the end replicas 0 and 1 show different lists: 0.2 (line 5, a.py:1) never arrived at replica 1 by this recording. {IT}"], got)
+        f"in the end replicas 0 and 1 show different lists: 0.2 (line 5, a.py:1) never arrived at replica 1 in this recording. {IT}"], got)
     path.write_text(text_of(2, PLACED))
     for beside, wanted in STATEMENTS:
         side.write_text(f"7\n{beside}")
@@ -1117,11 +1114,11 @@ HELD_BACK = "0 ins a 0 : a|1 recv 0 1|1 read : a|1 del a :|0 ins b 1 : a b|0 rec
 FIVE = "|".join(f"0 ins e{n} {n - 1} : {' '.join(f'e{k}' for k in range(1, n + 1))}" for n in range(1, 6))
 ASTRAY = {
     "another replica lacks one": ([1, 2, 3, 5], [1, 2, 3, 4, 5], "e1 e2 e3 e4",
-                                  "0.4 (line 6) was lost on its way to replica 1, or overtaken: no receipt there names it, though each other change of "),
+                                  "0.4 (line 6) was lost on its way to replica 1, or overtaken: no receipt there names it, though all other changes of "),
     "it lacks one itself": ([1, 2, 3, 4, 5], [1, 2, 3, 5], "e1 e2 e3 e5",
                             "0.4 was lost on its way to replica 2: no receipt there names it. If it was overtaken, "),
     "it lacks two": ([1, 2, 3, 4, 5], [1, 3, 5], "e1 e3 e5", "0.2 (line 4) and 0.4 (line 6) were lost on their way to replica 2, or overtaken: no receipt "
-                     "there names them, though each other change of replica 0 has one. "),
+                     "there names them, though all other changes of replica 0 have one. "),
     "it lacks one that it shows": ([1, 2, 3, 4, 5], [1, 2, 3, 5], "e1 e2 e3 e4", None),
     "two that travel together": ([1, 2, 3, 5], [1, 2, 3, 5], "e1 e2 e3 e4", None),
     "one receipt for all": ([1, 2, 3, 4, 5], [5], "e1 e2 e3 e4", None),
@@ -1173,7 +1170,7 @@ def saved(tally: Tally, program: str, folder: str) -> None:
     for left in range(2, len(lines)):
         path.write_bytes(b"".join(lines[:left]))
         got = explain(program, [str(path)])
-        wanted = f"the trace may have been cut at a line's end: it has {left} lines, and by {path}.lines it was saved with {len(lines)}"
+        wanted = f"the trace may have been cut at a line's end: it has {left} lines, and {path}.lines says that {len(lines)} were saved"
         tally.check(f"saved: {left} lines are left", wanted in warned(got) and got.status == 0, got)
     recording.read(1, [])
     recording.save(str(path))

@@ -90,8 +90,8 @@ WARNINGS = {
     "past": re.compile(r"line (\d+), \d+\.\d+: replica \d+ inserted "),
     "more": re.compile(r"and (\d+) more (?:deletes? of|inserts? past) "),
     "unheard": re.compile(r"replica (\d+) never hears of replicas? ([\d, and]+): "),
-    "ends": re.compile(r"(in the end replicas [\d, and]+ show different lists|by this recording )"),
-    "unshown": re.compile(r"replica (\d+) received .* last, and nothing(?: but a view)? shows what it made of (?:that|them): "),
+    "ends": re.compile(r"(in the end replicas [\d, and]+ show different lists|in this recording )"),
+    "unshown": re.compile(r"replica (\d+) received .* last, and nothing(?: but a view)? shows how it applied (?:that|them): "),
 }
 LACKED = re.compile(r"((?:\d+\.\d+ \(line \d+\)(?:, | and )?|\d+ more )+) ?never arrived at replica (\d+)")
 NAMED = re.compile(r"(\d+)\.(\d+) \(line (\d+)\)")
@@ -596,8 +596,7 @@ def known_as_cut(tally: Tally, program: str, folder: str) -> None:
     path = f"{folder}/junit.xml"
     got = judge(program, ["--junit", path, folder])
     lines, rows = got.err.decode().splitlines(), [cells(line)[:4] for line in got.out.decode().splitlines()]
-    told, left = (f"{folder}/{name}.trace: the trace may have been cut at a line's end: it has 4 lines, and by {folder}/{name}.trace.lines it was "
-                  f"saved with 9{shows}" for name, shows in (("zz", ""), ("bad", "; the verdict on the lines that are left is `contents 0.2`")))
+    told, left = (f"{folder}/{name}.trace: the trace may have been cut at a line's end: it has 4 lines, and {folder}/{name}.trace.lines says that 9 were saved{shows}" for name, shows in (("zz", ""), ("bad", "; the verdict on the lines that are left is `contents 0.2`")))
     tally.check("cut: status 2, failed, and said first", got.status == 2 and lines[:2] == [f"domepeeler-judge-many: {one}" for one in (left, told)]
                 and "more warning" in lines[-1] and got.out.decode().splitlines()[-2] == "10 traces: 8 accepted, 2 failed", got)
     tally.check("cut: the table has no verdict of them", rows[1:3] == [(f"{folder}/{name}.trace", "failed", "-", "-") for name in ("bad", "zz")], rows)
@@ -616,7 +615,7 @@ def known_as_cut(tally: Tally, program: str, folder: str) -> None:
         Path(folder, f"{name}.trace.lines").write_text(said)
     Path(folder, "nothing.trace").write_text("trace 1\nreplicas 1\n")
     lines = judge(program, [folder]).err.decode().splitlines()
-    unknown = [f"{folder}/{name}.trace.lines holds no number of lines, so nothing says whether the trace is whole" for name in ("none", "word")]
+    unknown = [f"{folder}/{name}.trace.lines holds no line count, so nothing says whether the trace is whole" for name in ("none", "word")]
     nothing = "nothing was recorded: the trace has no entry, so the verdict says nothing of an editor"
     tally.check("cut: always said that nobody knows, or nothing was recorded", lines[2:5] == [
         f"domepeeler-judge-many: {folder}/{name}.trace: warning: {told_of}" for name, told_of in zip(("none", "nothing", "word"), (unknown[0], nothing, unknown[1]))]
@@ -649,7 +648,7 @@ def places(tally: Tally, program: str, folder: str) -> None:
     Path(folder, "lost.trace.lines").write_text("4\nnote seed 17\n3 t.py:7\n4 t.py:8, called from t.py:9\n")
     judge(program, ["--junit", f"{folder}/junit.xml", folder])
     (failure,) = xml.parse(f"{folder}/junit.xml").getroot().iter("failure")
-    wanted = "\n\nIn your code\n  t.py:7: line 3\n  t.py:8, called from t.py:9: line 4\n\nNoted\n  seed 17\n"
+    wanted = "\n\nIn your code\n  t.py:7: line 3\n  t.py:8, called from t.py:9: line 4\n\nNoted\n  seed 17\n\nThe list specifications\n  strong and weak fail\n"
     tally.check("JUnit's file: places, and the seed", failure.text.endswith(wanted), failure.text)
 
 
@@ -1474,7 +1473,7 @@ def script_of_ci(tally: Tally, program: str, folder: str) -> None:
         write(str(place), {"cut/a.trace": entries})
         Path(place, "cut", "a.trace.lines").write_text("9\n")
         done = in_ci(str(place), path, f"{script} cut", {"GITHUB_ACTIONS": "true"})
-        told = f"the trace may have been cut at a line's end: it has 3 lines, and by cut/a.trace.lines it was saved with 9{left}"
+        told = f"the trace may have been cut at a line's end: it has 3 lines, and cut/a.trace.lines says that 9 were saved{left}"
         tally.check(f"script of CI: a trace that is known to be cut{left}", done.returncode == 2 and done.stdout.startswith(
             f"::error file=cut/a.trace,title=cut/a.trace%3A failed::{told}\ncut/a.trace: {told}\n") and (
                 "\ncontents 0.1: " if left else "\naccepted, ") in done.stdout, done)
@@ -1639,7 +1638,7 @@ def weak_junit(tally: Tally, program: str, folder: str) -> None:
                 f"{folder}/alone.trace: the trace may have been cut at a line's end".encode() in got.err and suite.get("errors") == "1", got)
     got = judge(program, ["--junit", path, f"{folder}/alone.trace"])
     tally.check("weak: a cut trace where strong is wanted", got.status == 2 and got.out.endswith(b"\n1 trace: 1 failed\n") and
-                got.err.endswith(b"saved with 40; the verdict on the lines that are left is `refused 3`\n"), got)
+                got.err.endswith(b"says that 40 were saved; the verdict on the lines that are left is `refused 3`\n"), got)
 
 
 def weak_in_ci(tally: Tally, program: str, folder: str) -> None:

@@ -555,7 +555,7 @@ ALONE = "weak holds, strong doesn't: this passes"
 
 # What an accepted recording of one replica's insert and another's read may hide.
 UNSURE = ["in the end replicas 0 and 1 show different lists",
-          "replica 1 never hears of replica 0: no receipt brings it an insert or a delete from there, so nothing shows what it makes of "
+          "replica 1 never hears of replica 0: no receipt brings it an insert or a delete from there, so nothing shows how it applies "
           "these. At the end of a session let everyone receive everything, and read"]
 NOTHING = "nothing was recorded: the trace has no entry, so the verdict says nothing of an editor"
 
@@ -849,13 +849,14 @@ def check_told(tally: Tally, name: str, said: str) -> None:
 
 
 def check_places(tally: Tally, name: str, said: str, file: str, text: str, caller: str = "") -> None:
-    """An explanation ends with the lines of the test's file that recorded: three calls stand there first, and where these stand in a
+    """An explanation has, before its last section, the lines of the test's file that recorded: three calls stand there first, and where these stand in a
     function, `caller` is in the line that calls it."""
     lines = text.splitlines()
     calls = [next(number for number, line in enumerate(lines, 1) if f"recording.{call}(" in line) for call in ("insert", "received", "read")]
     end = f", called from {file}:{next(number for number, line in enumerate(lines, 1) if caller in line)}" if caller else ""
     wanted = "".join(f"  {file}:{call}{end}: line {line}\n" for line, call in enumerate(calls, 3))
-    tally.check(f"{name}: the lines of the test", f"\nIn your code\n{wanted}\nThe trace is saved: " in said, (wanted, said))
+    tally.check(f"{name}: the lines of the test", re.search(
+        rf"\nIn your code\n{re.escape(wanted)}\nThe list specifications\n  .*\n\nThe trace is saved: ", said), (wanted, said))
 
 
 def check_saved(tally: Tally, name: str, said: str, folder: Path) -> None:
@@ -929,7 +930,7 @@ def check_python(tally: Tally, place: Place) -> None:
                 LOST_TRACE in done.stdout and "INTERNALERROR" not in done.stdout, done.stdout)
     done = place.run([*command, "-k", "test_right"], "python", DOMEPEELER="nowhere")
     tally.check("pytest: without a program", "1 failed" in done.stdout and
-                "The recording was not judged: nowhere cannot be run (No such file or directory): name the program's path in DOMEPEELER"
+                "The recording was not judged: nowhere cannot be run (No such file or directory): set DOMEPEELER to the program's path"
                 in done.stdout, done.stdout)
     done = place.run(lost[:-1], "python", DOMEPEELER_EXPLAIN="nowhere")
     tally.check("pytest: without an explainer", "The recording is not accepted: contents. There is no explanation: nowhere cannot be run"

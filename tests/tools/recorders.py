@@ -136,7 +136,7 @@ SAID = [
 ]
 
 # By now everything has arrived everywhere. Between two replicas' lists stands a `/`.
-NOT_DELIVERED = "refused delivered takes one list for each of the {} replicas, not of {}"
+NOT_DELIVERED = "refused delivered takes one list for each of the {} replicas, not {}"
 DELIVERED = [
     ("what is missing", "new 3 -> ok\ninsert 0 a 0 a -> ok 1\ninsert 1 b 0 b -> ok 1\nreceived 0 1 1 -> ok\n"
      "delivered b a / b a / b a -> ok\nlines -> ok 11\nread 2 b a -> ok 2\n",
@@ -180,7 +180,7 @@ NOTES = [
 # Receipts by vector clocks, which count the inserts and deletes of each replica. Behind the author stands how many changes are carried.
 CLOCKED = ["py", "mjs", "rs", "c", "el"]
 UNCAUSAL = ("uncausal not causal: {0} was applied at replica {1} before {2}, which replica {3} had seen; "
-            "{2} has to arrive first, or in the same update, or the call for its update is missing")
+            "{2} must arrive first or in the same update, unless only the call for it is missing")
 MORE_CHANGES = "; if the update carried more than one change, say how many (`changes`)"
 CLOCKS = [
     ("a right session", "new 3 -> ok\nclock 0 -> ok 0 0 0\nread 2 -> ok 1\ninsert 2 a 0 a -> ok 2\nclock 2 -> ok 0 0 1\n"
@@ -279,7 +279,7 @@ STOPS = [
     ("opposite orders where weak is enough", CYCLE.replace("new 3", "stop_weak 3") + "delivered b a / b a / a b -> stopped refused 2:\n"
      "lines -> ok 18\n"),
     ("what is refused is not judged", "stop 2 -> ok\nread 7 -> refused no replica 7 among 0 to 1\nread 0 -> ok 1\n"),
-    ("one replica's log", "stop 2 1 -> refused one replica's log can't stop in a wrong call: it is judged only when the logs are merged\n"),
+    ("one replica's log", "stop 2 1 -> refused one replica's log can't be judged after each call, but only when the logs are merged\n"),
 ]
 
 # Calls that are refused, behind calls that are not; the recording stays what it was.
@@ -347,7 +347,7 @@ OWN_TYPES = {
            'operation number is not a whole number from 1 to 4294967295 but the string "1"',
            "number of changes is not a whole number from 1 to 1 but None", "delivered takes one list for each of the 2 replicas, not None",
            'delivered takes one list for each of the 2 replicas, not the string "ab"', "no replica 2 among 0 to 1",
-           "delivered takes one list for each of the 2 replicas, not of 1", "a response is a list of names", NO_NOTE.partition(" ")[2],
+           "delivered takes one list for each of the 2 replicas, not 1", "a response is a list of names", NO_NOTE.partition(" ")[2],
            REPLICA + 'the string "' + "1" * 40 + '"..', "a recording takes `weak` only with `stop`: else give it to `judge` and `explain`",
            ODD_REPLICA, "no change with the id ('a', '\\xc3\\xa4\\n') has been recorded"],
     "el": [ODD_REPLICA, REPLICA + "the symbol \\x3a:a\\x0ab"],
@@ -357,7 +357,7 @@ OWN_TYPES = {
             'operation number is not a whole number from 1 to 4294967295 but the string "1"',
             "number of changes is not a whole number from 1 to 1 but null", "delivered takes one list for each of the 2 replicas, not null",
             'delivered takes one list for each of the 2 replicas, not the string "ab"', "no replica 2 among 0 to 1",
-            "delivered takes one list for each of the 2 replicas, not of 1", "a response is a list of names", NO_NOTE.partition(" ")[2],
+            "delivered takes one list for each of the 2 replicas, not 1", "a response is a list of names", NO_NOTE.partition(" ")[2],
             REPLICA + 'the string "' + "1" * 40 + '"..', "an id of a change is a string or a number, not a Symbol",
             'name "a b" ' + NAME, "count of a clock is not a whole number from 0 to 4294967295 but undefined",
             "a recording takes `weak` only with `stop`: else give it to judge() and explain()", ODD_REPLICA]}
@@ -379,7 +379,7 @@ LIMITS = [
     ("names of a response", ["read 0"], f"read 0 {' '.join(ELEMENTS[:4096])} -> ok 2", f"read 0 {' '.join(ELEMENTS)}",
      "a response of 4097 names; a trace takes at most 4096", f"0 read : {' '.join(ELEMENTS)}", "long response"),
     ("names of all responses", [f"read 0 {' '.join(ELEMENTS[:4096])}"] * 63, f"read 0 {' '.join(ELEMENTS[:4096])} -> ok 64",
-     "read 0 a", f"262145 names over the responses of replica 0, {FULL} is 262144", "0 read : a", "places full"),
+     "read 0 a", f"262145 names over the responses of replica 0; a trace takes at most 262144", "0 read : a", "places full"),
 ]
 
 
@@ -531,7 +531,7 @@ def check_full_updates(tally: Tally, recorder: Recorder) -> None:
         return
     calls = ["new 3", *["read 0"] * 16383, "as a insert 1 a 0", "as b insert 2 b 0", "received_changes 0 a b", "text"]
     got = recorder.answers([fields(call) for call in calls])
-    tally.check(f"{recorder.language}: ids at the limit", got[16386] == f"full replica 0 has 16383 entries, {FULL} is 16384" and
+    tally.check(f"{recorder.language}: ids at the limit", got[16386] == f"full replica 0 has 16383 entries; a trace takes at most 16384" and
                 got[-3:] == ["| 1 ins a 0 :", "| 2 ins b 0 :", "ok"], got[16384:16387] + got[-3:])
 
 
@@ -640,7 +640,7 @@ def check_lines(tally: Tally, recorder: Recorder, folder: Path) -> None:
     tally.check(f"{recorder.language}: the number of lines", saved(trace) == "ok" and beside(trace) == f"11 {own}", beside(trace))
     tally.check(f"{recorder.language}: no warning of a whole trace", warned() == [], warned())
     trace.write_bytes(b"".join(trace.read_bytes().splitlines(True)[:-1]))
-    wanted = f"the trace may have been cut at a line's end: it has 10 lines, and by {trace}.lines it was saved with 11"
+    wanted = f"the trace may have been cut at a line's end: it has 10 lines, and {trace}.lines says that 11 were saved"
     tally.check(f"{recorder.language}: a warning of one that was cut", wanted in warned(), warned())
     spaced = place / "two words.trace"
     got = saved(spaced.as_uri() if recorder.language == "mjs" else spaced)  # JavaScript takes URLs too
@@ -768,6 +768,8 @@ def check_interfered(tally: Tally, recorder: Recorder, place: Path) -> None:
 # `explain` has no more than the tool's words, but for these places.
 PLACING = {"py": "recording.", "mjs": "recording.", "rs": "recording.", "c": "domepeeler_"}
 EXPLAINING = ["c", "el"]
+LAST = "\nThe list specifications\n"  # the title of an explanation's last section
+FAIL_BOTH = f"{LAST}  strong and weak fail\n"
 CODE = re.compile(r"\nIn your code\n(  .*\n)+")
 
 
@@ -1110,14 +1112,14 @@ def check_users(tally: Tally, program: str, folder: Path) -> None:
             tally.check(f"{name}: places in {saved}", got == wanted, got)
         told = subprocess.run([EXPLAIN, "session.trace"], cwd=place, capture_output=True, text=True, env=surroundings)
         tally.check(f"{name}: explains as the tool explains the file", done.stdout == told.stdout and
-                    told.stdout.endswith("\n\nIn your code\n" + "".join(
-                        "  {1}: line {0}\n".format(*line.format(place="").split(" ", 1)) for line in USERS[name][1])), (done, told))
+                    "\n\nIn your code\n" + "".join("  {1}: line {0}\n".format(*line.format(place="").split(" ", 1)) for line in USERS[name][1])
+                    + "\nThe list specifications\n" in told.stdout, (done, told))
         for left in place.glob("*.trace*"):
             left.unlink()
 
 
 def check_grouped(tally: Tally, program: str, folder: Path) -> None:
-    """Lines that were recorded at one place are told there together; the notes come last."""
+    """Lines that were recorded at one place are told there together; behind them come the notes, and last what the verdict is by definition."""
     place = folder / "grouped"
     place.mkdir()
     surroundings = {**os.environ, "DOMEPEELER": program, "DOMEPEELER_EXPLAIN": EXPLAIN, "LC_ALL": "C.UTF-8"}
@@ -1130,7 +1132,7 @@ def check_grouped(tally: Tally, program: str, folder: Path) -> None:
         done = subprocess.run(words, cwd=place, capture_output=True, text=True, env=surroundings)
         told = [f"  {one}: {lines}\n" for one, lines in zip(places, ["lines 3, 4 and 5", "line 6", "line 7"])]
         tally.check(f"{name}: one place for several lines", done.stdout.startswith("contents 1.1: ") and
-                    done.stdout.endswith(f"\n\nIn your code\n{''.join(told)}\nNoted\n  seed 17\n"), done)
+                    done.stdout.endswith(f"\n\nIn your code\n{''.join(told)}\nNoted\n  seed 17\n{FAIL_BOTH}"), done)
 
 
 # Programs that stop before the entry in line 6, each by the statement of its language as the tool writes it; what is printed there; and
@@ -1226,7 +1228,7 @@ def check_log_readers(tally: Tally, program: str, folder: Path) -> None:
         tally.check(f"{name}: explains as the tool explains the file", said == told.stdout, (done, told))
         section = "".join(f"  deep/journal:{at}: {lines}\n" for at, lines in (
             (7, "line 3"), (9, "line 4"), (11, "lines 5 and 6"), (12, "line 7"), (13, "line 8")))
-        tally.check(f"{name}: names the lines of the log", said.endswith(f"\n\nIn your log\n{section}"), said)
+        tally.check(f"{name}: names the lines of the log", f"\n\nIn your log\n{section}{LAST}" in said, said)
         tally.check(f"{name}: no debugger of this program", "\n  stop before line 7, where replica 1 applies 0.1; " in said and
                     " The editor then writes deep/journal:12.\n" in said and "breakpoint" not in said, said)
 
@@ -1328,13 +1330,13 @@ def check_many_lines(tally: Tally, recorder: Recorder) -> None:
 
 
 NOTHING = "nothing was recorded: the trace has no entry, so the verdict says nothing of an editor"
-NEVER_HEARS = ("replica {} never hears of {}: no receipt brings it an insert or a delete from there, so nothing shows what it makes of these. "
+NEVER_HEARS = ("replica {} never hears of {}: no receipt brings it an insert or a delete from there, so nothing shows how it applies these. "
                "At the end of a session let everyone receive everything, and read")
-LOST_ONE = "If everything was delivered, it was lost or is still held back"
-LOST_SOME = "If everything was delivered, they were lost or are still held back"
+LOST_ONE = "If nothing was still on its way, it was lost or is held back"
+LOST_SOME = "If nothing was still on its way, they were lost or are held back"
 OF_NOTHING = ("line {0}, 0.{1}: replica 0 deleted {2}, which no line inserts, so no response shows whether it was deleted: is that its "
               "name, and was its insert recorded?")
-PAST_END = "line {0}, 0.{1}: replica 0 inserted {2} at position {3} of a list of length {4}, which counts as its end: is that the position that was asked for?"
+PAST_END = "line {0}, 0.{1}: replica 0 inserted {2} at position {3}, which counts as the end of a list of length {4}: is that the position that was asked for?"
 
 # Calls of accepted recordings, and what the verdict on each may hide.
 WARNED = [
@@ -1343,17 +1345,17 @@ WARNED = [
      []),
     ("everything delivered", ["new 3", "insert 0 a 0 a", "insert 1 b 0 b", "delivered b a / b a / b a"], []),
     ("a change that is held back", ["new 2", "insert 0 a 0 a", "received 1 0 1", "insert 0 b 1 a b", "read 1 a"],
-     [f"in the end replicas 0 and 1 show different lists: 0.2 (line 5) never arrived at replica 1 by this recording. {LOST_ONE}"]),
+     [f"in the end replicas 0 and 1 show different lists: 0.2 (line 5) never arrived at replica 1 in this recording. {LOST_ONE}"]),
     ("more of them than are told", ["new 2", "insert 0 a 0 a", "received 1 0 1", "insert 0 b 0 b a", "insert 0 c 0 c b a",
                                     "delete 0 c b a", "delete 0 b a", "read 1 a"],
-     [f"by this recording 0.2 (line 5), 0.3 (line 6), 0.4 (line 7) and 1 more never arrived at replica 1. {LOST_SOME}"]),
+     [f"in this recording 0.2 (line 5), 0.3 (line 6), 0.4 (line 7) and 1 more never arrived at replica 1. {LOST_SOME}"]),
     ("three replicas, two alike", ["new 3", "insert 1 a 0 a", "received 0 1 1", "received 2 1 1", "read 0 a", "insert 1 b 1 a b",
                                    "read 2 a"],
      ["in the end replicas 0, 1 and 2 show different lists (0 and 2 show the same one): 1.2 (line 7) never arrived at replica 0 and 1.2 (line 7) "
-      f"never arrived at replica 2 by this recording. {LOST_SOME}"]),
+      f"never arrived at replica 2 in this recording. {LOST_SOME}"]),
     ("one that both deleted", ["new 2", "insert 0 a 0 a", "received 1 0 1", "delete 0 a", "delete 1 a", "received 0 1 1", "read 0",
                                "read 1"],
-     [f"by this recording 0.2 (line 5) never arrived at replica 1. {LOST_ONE}"]),
+     [f"in this recording 0.2 (line 5) never arrived at replica 1. {LOST_ONE}"]),
     ("a replica that hears of none", ["new 2", "insert 0 a 0 a", "received 1 0 1", "insert 1 b 1 a b", "read 0 a"],
      ["in the end replicas 0 and 1 show different lists", NEVER_HEARS.format(0, "replica 1")]),
     ("replicas that it never hears of", ["new 3", "insert 0 a 0 a", "insert 1 b 0 b", "read 2", "received 0 1 1", "received 1 0 1",
@@ -1361,17 +1363,17 @@ WARNED = [
      ["in the end replicas 0, 1 and 2 show different lists (0 and 1 show the same one)", NEVER_HEARS.format(2, "replicas 0 and 1")]),
     ("no list at the end", ["new 2", "insert 0 a 0 a", "insert 1 b 0 b", "received 0 1 1", "read 0 b a", "received 1 0 1", "view 1 a"],
      ["in the end replicas 0 and 1 show different lists",
-      "replica 1 received 0.1 (line 7) last, and nothing but a view shows what it made of that: let each replica read at the end"]),
+      "replica 1 received 0.1 (line 7) last, and nothing but a view shows how it applied that: let each replica read at the end"]),
     ("a list, and then a view", ["new 2", "insert 0 a 0 a", "received 1 0 1", "read 1 a", "view 1 a"], []),
     ("a view between two receipts", ["new 2", "insert 0 a 0 a", "read 1", "received 1 0 1", "view 1 a", "insert 0 b 0 b a", "received 1 0 2"],
      ["in the end replicas 0 and 1 show different lists",
-      "replica 1 received 0.1 (line 5) and 0.2 (line 8) last, and nothing shows what it made of them: let each replica read at the end"]),
+      "replica 1 received 0.1 (line 5) and 0.2 (line 8) last, and nothing shows how it applied them: let each replica read at the end"]),
     ("nothing shown of what came last", ["new 2", "insert 0 a 0 a", "read 1", "received 1 0 1", "received 1 0 1"],
      ["in the end replicas 0 and 1 show different lists",
-      "replica 1 received 0.1 (line 5) last, and nothing shows what it made of that: let each replica read at the end"]),
+      "replica 1 received 0.1 (line 5) last, and nothing shows how it applied that: let each replica read at the end"]),
     ("nothing shown of several", ["new 2", "insert 0 a 0 a", "insert 0 b 0 b a", "insert 0 c 0 c b a", "insert 0 d 0 d c b a",
                                   "insert 0 e 0 e d c b a", "view 1", *(f"received 1 0 {n}" for n in range(1, 6))],
-     ["replica 1 received 0.1 (line 9), 0.2 (line 10), 0.3 (line 11) and 2 more last, and nothing shows what it made of them: let each "
+     ["replica 1 received 0.1 (line 9), 0.2 (line 10), 0.3 (line 11) and 2 more last, and nothing shows how it applied them: let each "
       "replica read at the end"]),
     ("receipts alone, and no entry", ["new 3", "insert 0 a 0 a", "received 1 0 1"],
      ["replica 1 has receipts, but no operation: nothing that it showed is judged",
@@ -1518,14 +1520,14 @@ def check_explains_file(tally: Tally, recorder: Recorder, folder: Path) -> None:
     said = [line[2:] for line in got[len(calls) + 1:-1]]
     place = f"driver\\.{recorder.language}:\\d+" if recorder.language in PLACING else ""
     tally.check(f"{recorder.language}: explains a file with warnings", told.returncode == 0 and said == told.stdout.splitlines() and
-                said[-3:] == ["", "Noted", "  seed 17"] and re.search(rf": 0\.2 \(line 5(, .*{place})?\) never arrived at replica 1 ", told.stdout)
+                said[-6:] == ["", "Noted", "  seed 17", *(LAST + "  strong and weak hold").split("\n")] and re.search(rf": 0\.2 \(line 5(, .*{place})?\) never arrived at replica 1 ", told.stdout)
                 and ("(line 5, " in told.stdout) == (recorder.language in PLACING), (said, told))
     lost = ["new 2", "insert 0 a 0 a", "delivered a /"]
     got = recorder.answers([*map(fields, lost), f"save\t{trace}", "explain"], DOMEPEELER_EXPLAIN=EXPLAIN)
     told = subprocess.run([EXPLAIN, trace], capture_output=True, text=True, env=recorder.surroundings)
     said = [line[2:] for line in got[len(lost) + 1:-1]]
     tally.check(f"{recorder.language}: explains a file of a session that ends with delivered", told.returncode == 1 and
-                said == told.stdout.splitlines() and "nothing shows that 0.1 (line 3) was applied at replica 1" in told.stdout and
+                said == told.stdout.splitlines() and "says that 0.1 (line 3) arrived at replica 1; no response before shows it." in told.stdout and
                 "arrived at replica 1 in line 5 (1 recv 0 1), which `delivered` wrote" in told.stdout, (said, told))
 
 
@@ -1601,12 +1603,12 @@ def check_explain(tally: Tally, recorder: Recorder, folder: Path) -> None:
         told = subprocess.run([EXPLAIN, "--language", LANGUAGES[recorder.language], "-"], input=text, capture_output=True, text=True,
                               env=recorder.surroundings).stdout
         said = CODE.sub("", "".join(line[2:] + "\n" for line in got[at + 1:-1]))
-        tally.check(f"{recorder.language}: explain {name}", told and said == told + more and got[-1] == "ok", got)
+        tally.check(f"{recorder.language}: explain {name}", LAST in told and said == told.replace(LAST, more + LAST) and got[-1] == "ok", got)
     got = recorder.answers(["new\t3\t1", "explain"], DOMEPEELER_EXPLAIN=EXPLAIN)[-1]
     tally.check(f"{recorder.language}: explain one log", got.split(" ", 1)[1:] == [ONE_LOG], got)
     for absent, why in (str(folder / "nowhere"), "cannot be run"), ("/bin/false", "ended with status 1 and printed no words"):
         got = recorder.answers(["new\t1", "explain"], DOMEPEELER_EXPLAIN=absent)[-1]
-        is_named = why.startswith("ended") or got.endswith(": name the tool's path in DOMEPEELER_EXPLAIN")
+        is_named = why.startswith("ended") or got.endswith(": set DOMEPEELER_EXPLAIN to the tool's path")
         tally.check(f"{recorder.language}: explain by {absent}", got.startswith(f"failed {absent} {why}") and is_named, got)
     tool = folder / "path" / "domepeeler-explain"
     tool.write_text("#!/bin/sh\ncat > /dev/null\necho the tool beside it\n")
@@ -1754,8 +1756,8 @@ def check_merge(tally: Tally, program: str, folder: Path) -> None:
 CODE_BESIDE = [b"7\n3 a.py:1\n4 a.py:2, called from b.py:9\n7 a.py:5\n", b"4 \r\n4 c.py:4\n", b"4\n3 d.py:3\n4 d.py:4\n4 e.py:4\n"]
 LOGS_BESIDE = [text.replace(b"\n", b"\nlog\n", 1) for text in CODE_BESIDE]
 MERGED_PLACES = "3 a.py:1\n4 a.py:2, called from b.py:9\n6 c.py:4\n7 d.py:3\n8 d.py:4\n11 a.py:5\n"
-NO_NUMBER = "merge.py: warning: {0}.lines holds no number of lines, so nothing says whether {0} is whole\n"
-CUT = "merge.py: warning: {0} may have been cut at a line's end: it has {1} lines, and by {0}.lines it was saved with {2}\n"
+NO_NUMBER = "merge.py: warning: {0}.lines holds no line count, so nothing says whether {0} is whole\n"
+CUT = "merge.py: warning: {0} may have been cut at a line's end: it has {1} lines, and {0}.lines says that {2} were saved\n"
 MERGED_BESIDE = [
     ("nothing", [None, None, None], "11\nmerged\n", ""),
     ("code", CODE_BESIDE, f"11\nmerged\n{MERGED_PLACES}", ""),
@@ -1927,7 +1929,7 @@ def check_merged_elsewhere(tally: Tally, program: str, folder: Path) -> None:
     done = subprocess.run(tool, capture_output=True, text=True)
     said = subprocess.run([sys.executable, ROOT / "tools/explain", trace, "--program", program], capture_output=True, text=True).stdout
     tally.check("merge.py: a lost line is warned of at each verdict", (done.returncode, done.stderr) == (0, warned) and
-                f"it has 7 lines, and by {trace}.lines it was saved with 8" in said, (done, said))
+                f"it has 7 lines, and {trace}.lines says that 8 were saved" in said, (done, said))
     for number in 10, 11:
         Path(folder, f"{number}.ten").write_text(f"trace 1\nreplicas 12\n{number} read :\n")
     done = subprocess.run([*tool[:2], "10.ten", "11.ten"], cwd=folder, capture_output=True, text=True)
@@ -2204,7 +2206,7 @@ def check_stop(tally: Tally, recorder: Recorder, folder: Path) -> None:
         tally.check(f"{recorder.language}: stops, {name}", answers == wanted, got)
         if at == len(pairs):
             continue
-        told = told.partition(" /  / Noted")[0]  # what was noted when it had stopped
+        told = re.sub(" /  / Noted(?: /   [^/]*)*(?= /  / )", "", told)  # what was noted when it had stopped
         tally.check(f"{recorder.language}: stops, {name}: the words", says.startswith(pairs[at][1]) and says == f"stopped {told}" and
                     (recorder.language == "el" or " / In your code / " in says), got)
     calls = [fields(call) for call in ("stop 2", "insert 0 a 0 a", "received 1 0 1", "read 1 a", "lines")]
@@ -2504,7 +2506,7 @@ def check_rust_tests(tally: Tally, program: str, folder: Path) -> None:
                 f"\nIn your code\n  editor.rs:9: line 3\n  editor.rs:10: line 4\n  editor.rs:{line['reads']}: line 5\n" in done.stdout and
                 f"\nThe trace is saved: failed_traces/{saved.name}\n" in done.stdout, done)
     tally.check("Rust tests: nothing recorded", NOTHING in done.stdout, done)
-    warning = ("in the end replicas 0 and 1 show different lists: 0.2 (line 6, editor.rs:{}) never arrived at replica 1 by this recording. "
+    warning = ("in the end replicas 0 and 1 show different lists: 0.2 (line 6, editor.rs:{}) never arrived at replica 1 in this recording. "
                "{}").format(next(number for number, text in enumerate(RUST_TESTS.splitlines(), 1) if "// hidden" in text), LOST_ONE)
     unsure = saved.with_name("editor-an_insert_never_arrives.trace")
     tally.check("Rust tests: warnings of an accepted recording fail", f":\n{warning}\n\naccepted, with a warning: " in done.stdout and
@@ -2560,7 +2562,7 @@ fn main() {{
     done = subprocess.run([place / "placed"], cwd=folder, env=surroundings, capture_output=True, text=True)
     tally.check("Rust: places with signs that JSON escapes", json.loads(done.stdout)["warnings"] == [
         "in the end replicas 0 and 1 show different lists",
-        'replica 1 received 0.1 (line 5, a "user\'s" \\tests/placed.rs:7) last, and nothing shows what it made of that: let each replica '
+        'replica 1 received 0.1 (line 5, a "user\'s" \\tests/placed.rs:7) last, and nothing shows how it applied that: let each replica '
         "read at the end"], done)
 
 
@@ -2701,7 +2703,7 @@ def check_own_panics(tally: Tally, program: str, folder: Path) -> None:
     told = [f"The trace is saved: failed_traces/{name}.trace" for name in [*wanted, *["own-of_three_cases"] * 2] if name != "own-in_the_second"]
     verdicts = ["accepted"] * 2 + ["not accepted: contents 0.1"] * 10 + ["not accepted: contents 0.2", "accepted, and may hide something:"]
     told += [f"The recording is {verdict}" for verdict in verdicts] + [f"The recording was not judged: {ONE_LOG}"]
-    told += [f"  in the end replicas 0 and 1 show different lists: 0.2 (line 6, own.rs:{line['never arrives']}) never arrived at replica 1 by this "
+    told += [f"  in the end replicas 0 and 1 show different lists: 0.2 (line 6, own.rs:{line['never arrives']}) never arrived at replica 1 in this "
              f"recording. {LOST_ONE}"]
     tally.check("Rust: their verdicts and paths are told", sorted(done.stderr.splitlines()) == sorted(told) and
                 "The trace is saved: failed_traces/own-in_the_second.trace" in done.stdout, done)
@@ -2830,7 +2832,8 @@ def check_places_c(tally: Tally, program: str, folder: Path) -> None:
     beside = Path(folder, "places.trace.lines").read_text() if done.returncode == 0 else done
     tally.check("C: a place for each line of which it is known", beside ==
                 "8\nlanguage c\n3 editor.y:7\n6 a??\u00e4 b.c:12\n7 other.y:20\n8 other.y:20\n", beside)
-    tally.check("C: explain names these", done.stdout.endswith("\n\nIn your code\n  editor.y:7: line 3\n  other.y:20: lines 7 and 8\n\n"), done)
+    tally.check("C: explain names these", done.stdout.endswith(
+        f"\n\nIn your code\n  editor.y:7: line 3\n  other.y:20: lines 7 and 8\n{FAIL_BOTH}\n"), done)
 
 
 # A program in C++ whose call-back throws, and one that has none.
@@ -3056,8 +3059,8 @@ REFUSED_C = [
     ("what is not causal, and limits", ["new 3", *["read 2"] * 16385, "insert 0 a 0 a", "delete 0 a", "received_clock 1 0 1 2 0 0",
                                         "received_clock 1 0 2 2 0 0", "read 1"], "accepted", None),
     ("what is not causal, and never comes", ["new 3", "insert 0 a 0 a", "insert 0 b 1 a b", "received_clock 1 0 1 2 0 0", "delivered a b / a b / a b"],
-     "accepted", "a call was refused, and what it says never came: not causal: 0.2 was applied at replica 1 before 0.1, which replica 0 had seen; 0.1 has "
-     "to arrive first, or in the same update, or the call for its update is missing; if the update carried more than one change, say how many (`changes`)"),
+     "accepted", "a call was refused, and what it says never came: not causal: 0.2 was applied at replica 1 before 0.1, which replica 0 had seen; 0.1 must "
+     "arrive first or in the same update, unless only the call for it is missing; if the update carried more than one change, say how many (`changes`)"),
     ("what is not causal, and comes by a receipt of another", ["new 3", "insert 0 a 0 a", "insert 0 b 1 a b", "received_clock 1 0 1 2 0 0", "received 1 0 2",
                                                                "delivered a b / a b / a b"], "accepted", None),
 ]

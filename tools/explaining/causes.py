@@ -14,9 +14,9 @@ from .telling import at, counted, joined, listed
 MOST_TOLD = 3  # deletes, or elements, that are told one by one
 MOST_MET = 6  # changes for which a position was perhaps not adjusted
 
-ARRIVAL = ("Look at the recorder first: `received` must be called right after the change is applied. Then at the transport: no "
-           "change may arrive before those that its author had seen. Then at the editor: does it lose a change, apply it twice, or apply it to another "
-           f"element? {GUIDE} says where the calls go.")
+ARRIVAL = ("Look in this order. Recorder: `received` must be called right after the change is applied. Transport: no change may arrive before those "
+           "that its author had seen. Editor: does it lose a change, apply it twice, or apply it to another element? "
+           f"{GUIDE} says where the calls go.")
 UNDELIVERED = ("Only `delivered` ({lines}) says that {changes} arrived at replica {replica}; no response before shows {them}. {They} lost, or "
                "{are} held back for ever{waiting}. Look at what keeps changes waiting.")
 WAITING = "; {others}, which came later, perhaps wait{s} for {it}"
@@ -28,21 +28,21 @@ BROUGHT = ("No receipt at replica {replica} names {changes}: the recording count
            "a receipt of its own, {brought} overtook {them}, or {they} {were} lost.")
 LOST = ("Look first at whether {changes} {were} lost on {their} way to replica {replica}, or overtaken: no receipt there names {them}, though {others}. "
         "In an editor that sends positions, later changes then land in the wrong place.")
-OTHERS_HAVE = "each other change of replica {author} has one"
+OTHERS_HAVE = "all other changes of replica {author} have one"
 ELSEWHERE_ONE = {True: "at another replica it has one", False: "at other replicas they have some"}
 NO_RECEIPT = ("It looks as if {changes} {were} applied at replica {replica} without a receipt: the call of `received` is missing, comes "
               "too late, or names another operation.")
 WRONG_DELETE = ("It looks as if {delete} deleted {missing} instead of {surplus}: look at how a delete finds its element where it is "
                 "applied, and at whether the recorder names the element that was deleted.{moved}")
-MOVED_DELETE = (" In an editor that sends positions, the position of {delete} was perhaps not adjusted for {changes}, which the author of "
-                "{delete} had not seen{back}.{tie}")
-MOVED_BEFORE = "; or an earlier insert was not adjusted for a delete"
+MOVED_DELETE = (" If the editor sends positions, the position of {delete} was perhaps not adjusted for {changes}, which the author of {delete} had "
+                "not seen{back}.{tie}")
+MOVED_BEFORE = "; or an earlier insert was not adjusted for another delete"
 PUT_AT_ONCE = (" {others} {were} inserted at the same place as {element}, and neither author had seen the other's insert. Look also at which "
                "comes first there.")
 SECOND_DELETE = ("{again} deletes {element}, already deleted at replica {replica} by {first}: look at what the editor does with a delete whose element "
                  "is gone. It may have deleted {missing} instead.{moved}")
-CAUSAL = ("Apply an operation only after everything that its author had seen, or send both together. If the editor itself holds it back, write "
-          f"its receipt only when it is applied. {GUIDE} has both ways.")
+CAUSAL = ("There are two ways: apply an operation only after everything that its author had seen, or send that with it; if the editor itself holds "
+          f"it back, write its receipt only when it is applied. {GUIDE} has both.")
 OVERTAKEN = "Look at the order in which operations arrive: {name} was overtaken, as told above. " + CAUSAL
 LOST_OR_OVERTAKEN = ("Look first at whether {name} was lost on its way to replica {replica}: no receipt there names it. If it was overtaken, look "
                      "at the order in which operations arrive. ") + CAUSAL
@@ -52,34 +52,34 @@ NUMBERS_OF_INSERTS = " Often the number that orders inserts does not grow when c
 MAPPING = ("Look at how the position that a user sees is mapped to a place in the editor's own list{deleted}; and at whether the "
            "recorder writes the position that was asked for.")
 NUMBERS = ("Look at the numbers that order inserts at one place, if the editor has such (a clock, ids): {element} stands behind "
-           "{passed}, which replica {replica} had already. The number of {element} must be greater than {theirs}; perhaps it is not. Usual causes: "
+           "{passed}, which replica {replica} had already. The number that {element} has must be greater than {theirs}; perhaps it is not. Usual causes: "
            'the clock does not advance when changes arrive; ids are compared as text, so "10" comes before "9".')
 BESIDE_DELETED = ("Look at inserts beside deleted elements, if your replicas throw deleted elements away: the lines above name {which}. Without "
                   "that neighbour nothing says where the insert belongs.")
 SEVERAL_DELETED = ("Look at positions beside deleted elements: any {fewer} of {named} fit together, but perhaps an insert lost its place "
                    "because its neighbour was deleted elsewhere. The lines above say which elements each response no longer has.")
-SEVERAL_APART = ("Look at how a replica orders elements when it has only some of them: any {fewer} of {named} fit together. None of "
-                 "them leaves out an element because it was deleted, so each replica had not received some yet. Often the rule that orders "
-                 "concurrent inserts is not the same everywhere.")
-WEAK_ALONE_HOLDS = ("An editor whose server orders all changes, as Jupiter's does, promises only the weak list specification, and up to this line "
+SEVERAL_APART = ("Look at how a replica orders elements when it has only some of them: any {fewer} of {named} fit together. What "
+                 "each response leaves out was not deleted by then, so its replica had not received it yet. Often the rule that orders concurrent "
+                 "inserts is not the same everywhere.")
+WEAK_ALONE_HOLDS = ("An editor whose server orders all changes, as Jupiter's does, promises only the weak list specification, and up to line {line} "
                     "that holds. To ask for that only, use --weak.")
 CONCURRENT = ("Look at the order of concurrent inserts: {first} and {then} were inserted without knowing of each other, and were shown "
-              "in two different orders. Use a rule that gives the same order everywhere (by the replicas' numbers, say), and not the "
-              "order in which they arrive.{moved}")
+              "in two different orders. Use a rule that gives the same order everywhere (such as the replicas' numbers), and not the order of "
+              "arrival.{moved}")
 POSITIONS = ("Look at how a position is adjusted where a change arrives: the position of {element} was perhaps not adjusted for {changes}, which "
              "replica {replica} had and the author of {element} had not{back}. Or look at the order of concurrent inserts: {first} and {then} were inserted without knowing of each "
-             "other, and were shown in two different orders. Use a rule that gives the same order everywhere (by the replicas' numbers, say).")
+             "other, and were shown in two different orders. Use a rule that gives the same order everywhere (such as the replicas' numbers).")
 EITHER = ("Look at the order of concurrent inserts: {first} and {then} were inserted at one place without knowing of each other, and were shown in two "
           "different orders. Either the rule that orders them is not the same everywhere; or the position of {element} was not adjusted for {changes}, "
           "which replica {replica} had and the author of {element} had not{back}.")
-SEEN = ("Look at where a replica places an incoming insert: {later} inserted {new} when it had {old}, so their order was fixed, and yet "
-        "two responses differ in it.{numbers}{moved}")
-MOVED_INSERT = (" In an editor that sends positions, the position of {element} was perhaps not adjusted for {changes}, which replica {replica} "
+SEEN = ("Look at where a replica places an incoming insert: {later} inserted {new} when its replica had {old}, so their order was set, yet two "
+        "responses differ.{numbers}{moved}")
+MOVED_INSERT = (" If the editor sends positions, the position of {element} was perhaps not adjusted for {changes}, which replica {replica} "
                 "had and the author of {element} had not{back}.")
-MOVED_BACK = {True: "; or the position of the delete was not adjusted for an insert",
-              False: "; or the positions of the deletes were not adjusted for inserts"}
+MOVED_BACK = {True: "; or the position of the delete was not adjusted for another insert",
+              False: "; or the positions of the deletes were not adjusted for other inserts"}
 DOUBLED = ("Look at the recorder first: each inserted element needs a name of its own, for ever. Equal letters are different elements, "
-           "each element of a paste is a new one, and so is an element that undo brings back, where the editor makes a new one.")
+           "each element of a paste is a new one, and so is one that undo brings back, if the editor makes it anew.")
 
 
 class Cause(NamedTuple):
@@ -106,7 +106,8 @@ def of_contents(evidence: Evidence) -> list:
     found = found or unlike_receipts(evidence)
     found = [*lost(evidence), *found] if is_loss_likelier(evidence, found) else [*found, *lost(evidence)]
     found += brought(evidence, not found)
-    return [*found, Cause("arrival", otherwise("If that is not the cause", ARRIVAL) if found else ARRIVAL)]
+    these = "If none of these is the cause" if found[1:] else "If that is not the cause"
+    return [*found, Cause("arrival", otherwise(these, ARRIVAL) if found else ARRIVAL)]
 
 
 def undelivered(evidence: Evidence) -> Cause:
@@ -246,7 +247,7 @@ def of_position(evidence: Evidence) -> list:
 def of_refusal(evidence: Evidence, weak: bool) -> list:
     """Concurrent inserts first; then inserts beside deleted elements, then two elements of which one's author had seen the other."""
     if evidence.report["k"] > 2:
-        return [*lost(evidence), of_several(evidence), Cause("weak alone", WEAK_ALONE_HOLDS)]
+        return [*lost(evidence), of_several(evidence), Cause("weak alone", WEAK_ALONE_HOLDS.format(line=evidence.last_line))]
     first, then = (evidence.recording.inserts[name][0] for name in evidence.elements)
     if not first.has_seen(then) and not then.has_seen(first):
         moved = moved_over(evidence)
@@ -269,7 +270,7 @@ def of_refusal(evidence: Evidence, weak: bool) -> list:
 def beside_deleted(evidence: Evidence) -> list:
     if not evidence.lost_neighbours and not evidence.hidden_neighbours:
         return []
-    which = "an insert that arrived after its neighbour was deleted there" if evidence.lost_neighbours else "an insert whose neighbour was deleted later"
+    which = "an insert that arrived where its neighbour had been deleted" if evidence.lost_neighbours else "an insert whose neighbour was deleted later"
     return [Cause("beside deleted", BESIDE_DELETED.format(which=which))]
 
 
@@ -318,4 +319,4 @@ def moved_over(evidence: Evidence) -> dict:
 def named(changes: list) -> str:
     """Changes with what they changed."""
     what = {"ins": "insert", "del": "delete"}
-    return listed([f"the {what[change.kind]} {at(change)} of {change.element}" for change in changes], MOST_MET)
+    return listed([f"the {what[change.kind]} of {change.element} by {at(change)}" for change in changes], MOST_MET)

@@ -46,10 +46,10 @@ def stop_of(evidence: Evidence) -> tuple:
 def told(evidence: Evidence, entry: Operation | Receipt, others: list) -> str:
     """Where to stop, in words."""
     before = ", ".join(f"line {other.line}" for other in others[:MOST_OTHERS])
-    then = f"; if nothing is wrong there, stop where {'another' if len(others) == 1 else 'others'} arrived ({before})" if others else ""
+    then = f"; if nothing is wrong there, stop at {'another arrival' if len(others) == 1 else 'other arrivals'} ({before})" if others else ""
     if evidence.report["verdict"] == "contents" and evidence.undelivered:
-        then = f", and follow that to replica {evidence.operations[0].replica}"
-    return f"stop before line {entry.line}, where {doing(entry)}{then}."
+        then = f", and follow {entry.name} to replica {evidence.operations[0].replica}"
+    return f"stop before line {entry.line} of the trace, where {doing(entry)}{then}."
 
 
 def statement(entry: Operation | Receipt, language: str) -> str:

@@ -26,7 +26,7 @@ ENTRIES = ["an entry is one of these, with one blank between two words and none 
            "  r ins a k : Names    replica r inserted a at position k, and answered Names",
            "  r del a : Names      replica r deleted a",
            "  r read : Names       replica r read the list",
-           "  r view : Names       replica r showed a part of the list; where line 1 is `trace 2` alone",
+           "  r view : Names       replica r showed a part of the list; only if line 1 is `trace 2`",
            "  r recv q n           operation n of replica q has arrived at r"]
 LIMITS = {
     "entries full": "a replica has at most 16,384 entries, receipts counted: record shorter sessions, or fewer reads",
@@ -148,7 +148,7 @@ def right(cause: str, have: str | None, line: Part) -> list:
         count = line_of(line.text, 2).content().decode().split()[1]
         return [f"line 2 says {count} replicas, and they count from 0: their numbers are below {count}"]
     if cause == "own receipt":
-        return ["a replica receives what others did: its own operations it has without a receipt"]
+        return ["a replica receives what others did: it has its own operations without a receipt"]
     if cause == "not yet":
         _, _, replica, operation = [word.content().decode("ascii", "replace") for word in islice(line.words(), 4)]
         return [f"replica {replica} has {have} operations in the lines before, and operation {operation} is not among them",

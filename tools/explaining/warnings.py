@@ -105,7 +105,7 @@ def hidden(trace: bytes) -> tuple:
             before = words[4].count(b" ") - 1  # names in the list before it
             if int(words[3]) > before:
                 past_end.append(f"line {line}, {replica}.{n}: replica {replica} inserted {words[2].decode()} at position "
-                                f"{words[3].decode()} of a list of length {before}, which counts as its end: is that the position that was asked for?")
+                                f"{words[3].decode()}, which counts as the end of a list of length {before}: is that the position that was asked for?")
         elif kind == b"del":
             deletes.append((words[2], f"line {line}, {replica}.{n}: replica {replica} deleted {words[2].decode()}, which no line inserts, "
                             "so no response shows whether it was deleted: is that its name, and was its insert recorded?"))
@@ -137,13 +137,13 @@ def different(replicas: list) -> list:
     lacking = [(replica, *lacked(replicas, replica)) for replica, one in enumerate(replicas) if one.pasts]
     never = [f"{listed(first, count)} never arrived at replica {replica}" for replica, first, count in lacking if count]
     count = sum(count for _, _, count in lacking)
-    lost = "it was lost or is still held back" if count == 1 else "they were lost or are still held back"
+    lost = "it was lost or is held back" if count == 1 else "they were lost or are held back"
     if len(lists) < 2:
-        return [f"by this recording {joined(never)}. If everything was delivered, {lost}"] if never else []
+        return [f"in this recording {joined(never)}. If nothing was still on its way, {lost}"] if never else []
     differ = f"in the end replicas {joined(sorted(replica for same in lists.values() for replica in same))} show different lists"
     same = [f"{joined(one)} show the same one" for one in lists.values() if len(one) > 1]
     told = differ + (f" ({joined(same)})" if same else "")
-    return [f"{told}: {joined(never)} by this recording. If everything was delivered, {lost}" if never else told]
+    return [f"{told}: {joined(never)} in this recording. If nothing was still on its way, {lost}" if never else told]
 
 
 def lacked(replicas: list, replica: int) -> tuple:
@@ -168,7 +168,7 @@ def unheard(replicas: list) -> list:
                   if other.changes and author != replica and other.changes[0] > one.has[author]]
         if one.pasts and others:
             told.append(f"replica {replica} never hears of replica{'' if len(others) == 1 else 's'} {joined(others)}: no receipt brings it "
-                        "an insert or a delete from there, so nothing shows what it makes of these. At the end of a session let everyone "
+                        "an insert or a delete from there, so nothing shows how it applies these. At the end of a session let everyone "
                         "receive everything, and read")
     return told
 
@@ -186,7 +186,7 @@ def unshown(replicas: list) -> list:
             has = after
         if one.pasts and news:
             but = " but a view" if one.is_viewed else ""
-            told.append(f"replica {replica} received {listed(news[:MOST_CHANGES], len(news))} last, and nothing{but} shows what it made of "
+            told.append(f"replica {replica} received {listed(news[:MOST_CHANGES], len(news))} last, and nothing{but} shows how it applied "
                         f"{'that' if len(news) == 1 else 'them'}: let each replica read at the end")
     return told
 
@@ -209,9 +209,9 @@ def cut(trace: bytes, side: Side) -> list:
     said = side.content[:MOST_BYTES].partition(b"\n")[0].strip()
     lines = trace.count(b"\n")
     if not said.isdigit():
-        return [f"{shown(side.name)} holds no number of lines, {UNKNOWN}"]
+        return [f"{shown(side.name)} holds no line count, {UNKNOWN}"]
     if int(said) > lines:
-        return [f"{CUT}: it has {lines} lines, and by {shown(side.name)} it was saved with {int(said)}"]
+        return [f"{CUT}: it has {lines} lines, and {shown(side.name)} says that {int(said)} were saved"]
     if int(said) < lines:
-        return [f"the trace has {lines} lines, and by {shown(side.name)} it was saved with {int(said)}: is that file of another trace?"]
+        return [f"the trace has {lines} lines, and {shown(side.name)} says that {int(said)} were saved: is that file of another trace?"]
     return []

@@ -40,7 +40,7 @@ def explanation(evidence: Evidence, told: Evidence, language: str = debuggers.US
     where = [Section("Where to look", [cause.told for cause in of_whole(evidence, told) + causes])] if causes else []
     whole = whole_trace(evidence, told)
     others = " too, and names other responses" if verdict_of(evidence.report) == verdict_of(told.report) else ""
-    headline += f" Of the whole trace the program says {verdict_of(evidence.report)}{others}." if whole else ""
+    headline += f" The verdict on the whole trace is {verdict_of(evidence.report)}{others}." if whole else ""
     if weak and is_weak_alone(evidence.report):
         headline = f"{WEAK_ALONE}: this passes, as the weak list specification alone is asked for. {headline}"
     return Explanation(headline, [*when_it_went_wrong(evidence, told, weak), *without_receipts(told), *sections, *where,
@@ -85,7 +85,7 @@ def when_it_went_wrong(evidence: Evidence, told: Evidence, weak: bool) -> list:
     verdict = verdict_of(told.report)
     is_alone = weak and is_weak_alone(evidence.report)
     before = "weak holds" if weak and not is_alone else "the session is accepted"
-    lines = [f"{did(entry, is_first=True)}: up to line {last - 1} {before}; line {last} makes it {verdict}"]
+    lines = [f"{did(entry, is_first=True)}. Up to line {last - 1} {before}; line {last} leads to {verdict}"]
     if told.report["verdict"] == "refused":
         still = "agrees with all responses up to then" if weak and not is_alone else "still fits"
         lines += [since(told, entry, still), *in_the_end(evidence.recording)]
@@ -224,7 +224,7 @@ def gone_there(deletes: list) -> str:
 
 def beside_hidden(evidence: Evidence) -> list:
     """Which elements had been put beside ones that are deleted for the response that shows them."""
-    return [f"{insert.element} was put {beside(insert, names)}, which {'were' if names[1:] else 'was'} deleted by the time of {at(operation)}"
+    return [f"{insert.element} was put {beside(insert, names)}, which {'were' if names[1:] else 'was'} already deleted at {at(operation)}"
             for insert, names, operation in evidence.hidden_neighbours]
 
 
@@ -273,7 +273,7 @@ def what_is_wrong(evidence: Evidence, operation: Operation) -> str:
         told.append(f"has {elements_of(len(evidence.surplus))} that should not be there")
     if evidence.repeated:
         told.append(f"names {elements_of(len(evidence.repeated))} more than once")
-    return f"this {'view' if operation.kind == 'view' else 'response'} {joined(told)}"
+    return f"this {'view' if operation.kind == 'view' else 'response'} {', and '.join(told)}"
 
 
 def elements_of(count: int) -> str:
@@ -327,17 +327,17 @@ def overtaken(evidence: Evidence, change: Operation, operation: Operation) -> li
         return []
     (brought, own), replica = found, operation.replica
     if own is not None:
-        had = "" if own.seen.replica == brought.seen.replica else f", though its author already had {change.name}"
+        had = "" if own.seen.replica == brought.seen.replica else f", whose author already had {change.name},"
         if own.seen is change:
-            return [f"{change.name}'s own receipt comes only in line {own.line} ({own.text}). {brought.seen.name} overtook it in line {brought.line}"
-                    f"{had}: that order is not causal"]
-        return [f"no receipt at replica {replica} names {change.name}; the next one from its author is line {own.line} ({own.text}). It was lost, or "
-                f"{brought.seen.name} overtook it in line {brought.line}{had}"]
+            return [f"{change.name}'s own receipt comes only in line {own.line} ({own.text}). {brought.seen.name}{had} overtook it in line "
+                    f"{brought.line}: that order is not causal"]
+        return [f"no receipt at replica {replica} names {change.name}; the next from its author is line {own.line} ({own.text}). {change.name} was "
+                f"lost, or {brought.seen.name}{had} overtook it in line {brought.line}"]
     if change.replica == brought.seen.replica:
-        return [f"{change.name} has no receipt of its own at replica {replica}, though each other change of replica {change.replica} has one. It was "
+        return [f"{change.name} has no receipt of its own at replica {replica}, though all other changes of replica {change.replica} have one. It was "
                 f"lost, or {brought.seen.name} overtook it in line {brought.line}"]
-    return [f"it has no receipt of its own at replica {replica}, and counts as arrived with {at(brought.seen)}, whose author had it. If each "
-            "operation travels by itself, it had not arrived: that order is not causal"]
+    return [f"{change.name} has no receipt of its own at replica {replica}, and counts as arrived with {at(brought.seen)}, whose author had it. If each "
+            f"operation travels by itself, {change.name} had not arrived, which is not causal"]
 
 
 def neighbours(evidence: Evidence, insert: Operation) -> list:
@@ -352,7 +352,7 @@ def neighbours(evidence: Evidence, insert: Operation) -> list:
         return []
     if not gone:
         was = "was not deleted there" if len(names) == 1 else "were not deleted there"
-        return [f"was put {beside(insert, names)}, which {was} when it arrived (line {receipt.line})"]
+        return [f"was put {beside(insert, names)}, which {was} when {insert.element} arrived (line {receipt.line})"]
     if evidence.recording.is_delivered(receipt.line):
         return [f"was put {beside(insert, names)}. By line {receipt.line}, {gone_there(gone)}"]
     return [f"was put {beside(insert, names)}. {when_arrived(receipt, gone)}"]
