@@ -76,7 +76,11 @@ pub fn judge_and_write<H: Threads + Sync, G: Gate>(
         (joined c.texts.items)) }
     ensures workers { IsErrOf result SearchFault.Workers ↔ ((workers < 1) ⊎ (MOST_WORKERS < workers)) }
 {
-    let Judged { verdict, graph } = verdict_and_graph(rt, alloc, recording, workers, gate)?;
+    let Judged {
+        verdict,
+        graph,
+        looked: _,
+    } = verdict_and_graph(rt, alloc, recording, workers, gate)?;
     let texts = texts_by(rt, alloc, workers, recording, &verdict, graph)?;
     Ok(Certified { verdict, texts })
 }

@@ -14,7 +14,7 @@ use Rattle.level_search.specs.declared.tabled.sets.Sets.{Sets}
 bit-low : (set : List ℕ) (x : ℕ) → bit set x < 2
 bit-low set x = bit_at-lt _ _
 
-bit-has : (set : List ℕ) (x : ℕ) → Has set x → bit set x ≡ 1
+pub bit-has : (set : List ℕ) (x : ℕ) → Has set x → bit set x ≡ 1
 unfolding Has
 bit-has set x has = has
 

@@ -17,6 +17,8 @@ pub mod Rising
 pub mod LowerBounds
 pub mod Thinned
 pub mod ListLooks
+pub mod SpotRooms
+pub mod FoundLooks
 -- Lemmas on the workers.
 pub mod Teams
 pub mod LeastOffer

@@ -1,5 +1,5 @@
 -- Numbers that stand at places of lists are no more than the places.
-use Rattle.std.proofs.Common.{◌≡◌, ℕ, zero, suc, ◌+◌, ◌<◌, ◌≤◌, Some, List, [], ◌∷◌, ◌++◌, length}
+use Rattle.std.proofs.Common.{◌≡◌, ℕ, zero, suc, ◌+◌, ◌*◌, ◌<◌, ◌≤◌, Some, List, [], ◌∷◌, ◌++◌, length}
 use Rattle.std.proofs.Common.{Bool, filter, refl, ap, ◌∙◌, arith, length-append}
 use Rattle.std.specs.Prelude.{AllPairs, Contains, bytes_eq, sum_by}
 use Rattle.std.specs.List.{range_with_len, list_any}
@@ -17,6 +17,7 @@ use Rattle.order_graph.specs.Lists.{lists_of, row}
 use Rattle.order_graph.proofs.Shown.{lists-total}
 use Rattle.level_search.specs.Conflicts.{IsWithinSearches}
 use Rattle.level_search.specs.Cores.{IsPlaced}
+use Rattle.level_search.specs.Looks.{AreCycleLooks}
 use Rattle.level_search.specs.Team.{AreLooksOf}
 use Rattle.level_search.proofs.Counts.{counts-most}
 use Rattle.level_search.proofs.LayerSizes.{counted-most}
@@ -90,3 +91,20 @@ within-searches v n rows least looked known placed total is =
     (place_count v + length v.elements) (omega (arith, searches, few, known)) (omega arith) in
     let looked_is = is.looked_is in
     omega (arith, looked_is, all, most, counted-most is.count 0)
+
+-- the looks for the least cycle in a part are within those of the whole
+pub cycle-looks-whole : (part v : Responses) (k looked : ℕ) → length part.elements ≤ length v.elements
+    → place_count part ≤ place_count v → AreCycleLooks part k looked → AreCycleLooks v k looked
+cycle-looks-whole part v k looked elements places are =
+    let few = are.few in
+    let one : ℕ = place_count part + length part.elements in
+    let all : ℕ = place_count v + length v.elements in
+    record {
+      some = are.some;
+      few = omega (
+        arith,
+        few,
+        mul-le (length part.elements) (6 * one) (length v.elements) (6 * all) elements (omega arith),
+        mul-le k one k all (omega arith) (omega arith),
+      );
+    }

@@ -2,14 +2,16 @@
 -- them to s, as the cycle has together.
 use Rattle.std.proofs.Common.{◌≡◌, ℕ, ◌+◌, ◌<◌, ◌≤◌, ◌⊎◌, inl, inr, List, length, get_or, map}
 use Rattle.std.proofs.Common.{[], ◌∷◌, refl, ap, sym, ◌∙◌, subst, arith}
-use Rattle.std.specs.Prelude.{◌↔◌, Option, true, is_some, reverse}
+use Rattle.std.specs.Prelude.{◌↔◌, Option, true, is_some, reverse, sum_by}
 use Rattle.std.proofs.lemmas.Bool.{cases_Bool, cases_eq, cases_lt}
 use Rattle.std.proofs.lemmas.Grind.{get_or_default_zero}
 use Rattle.std.proofs.lemmas.List.{length-reverse}
-use Rattle.specification.specs.Responses.{Responses, AreProper}
+use Rattle.std.proofs.lemmas.List.Sums.{sum_by-cons}
+use Rattle.specification.specs.Responses.{Responses, AreProper, place_count}
 use Rattle.specification.specs.Search.{IsShortestLength}
 use Rattle.order_graph.specs.Lists.{lists_of}
 use Rattle.order_graph.specs.Turned.{turned}
+use Rattle.order_graph.proofs.Shown.{lists-total}
 use Rattle.order_graph.proofs.Turned.{lists_turned}
 use Rattle.list_search.specs.Distances.{IsDistanceBelow}
 use Rattle.list_search.specs.Rings.{IsDistanceTo, Reaches}
@@ -35,6 +37,27 @@ same-lengths : (v : Responses)
 same-lengths v =
     ap (λ (rows : List (List ℕ)). map (λ (r : List ℕ). length r) rows) (lists_turned v)
     ∙ lengths-turned (lists_of v)
+
+total-turned : (rows : List (List ℕ))
+    → sum_by (λ (r : List ℕ). length r) (map reverse rows) ≡ sum_by (λ (r : List ℕ). length r) rows
+total-turned [] = refl
+total-turned (r ∷ rs) =
+    omega (
+      arith,
+      total-turned rs,
+      length-reverse r,
+      sum_by-cons (λ (l : List ℕ). length l) r rs,
+      sum_by-cons (λ (l : List ℕ). length l) (reverse r) (map reverse rs),
+    )
+
+-- in the other direction there are as many places and elements
+pub places-turned : (v : Responses)
+    → place_count (turned v) + length (turned v).elements ≡ place_count v + length v.elements
+places-turned v =
+    ap (λ p. p + length v.elements)
+    (sym (lists-total (turned v))
+    ∙ ap (λ (rows : List (List ℕ)). sum_by (λ (r : List ℕ). length r) rows) (lists_turned v)
+    ∙ total-turned (lists_of v) ∙ lists-total v)
 
 pub ready-turned : (s : ReadyView) (v : Responses) → IsReady s v → IsReady s (turned v)
 ready-turned s v ready = record {

@@ -43,6 +43,8 @@ pub record IsFound (v : Responses) (s : Found) : Type 0 where
   pub least : IsLeastLength s.core.graph s.least
   pub looked : AreLooksOf (length (searched_in s.core).elements) (lists_of (searched_in s.core)) s.least s.looked
   pub few : IsWithinSearches v s.looked
+  pub elements_few : length (searched_in s.core).elements ≤ length v.elements
+  pub places_few : place_count (searched_in s.core) ≤ place_count v
   pub known : All (λ x. x < length (searched_in s.core).elements) s.sources.items
   pub met : MeetsCycles (lists_of (searched_in s.core)) (length (searched_in s.core).elements) s.sources.items
 

@@ -1,6 +1,7 @@
 -- How many rows of its table a search has looked at, or places and elements of the lists.
 use Rattle.std.specs.Prelude.{◌≡◌, ℕ, ◌+◌, ◌*◌, ◌<◌, ◌≤◌, ◌⊎◌, Option, Some, None, List, [], ◌∷◌}
-use Rattle.std.specs.Prelude.{length, slice_index, sum_by}
+use Rattle.std.specs.Prelude.{length, min, slice_index, sum_by}
+use Rattle.specification.specs.Responses.{Responses, place_count}
 use Rattle.level_search.specs.Balls.{IsBall, IsInLayer}
 use Rattle.list_search.specs.Graph.{Before}
 use Rattle.level_search.specs.LayerSizes.{counted, layer_size, set_size}
@@ -69,3 +70,15 @@ AreCountsAt n rows low sources (place ∷ places) count =
     (one : ℕ) × (others : ℕ) × (sets : Sets) × (answer : Option ℕ)
     × IsCountBy n rows (slice_index sources place) low sets answer one
     × AreCountsAt n rows low sources places others × (count ≡ one + others)
+
+-- a count has risen by so many looks at least, up to the last count
+abbrev pub HasRisenBy : ℕ → ℕ → ℕ → Type 0
+HasRisenBy looks old new = min (old + looks) 18446744073709551615 ≤ new
+
+-- so many looks of the search for the least cycle, which has k elements: at least those of a search that finds
+-- it, and at most those of six searches from each element and of one for each of the k, where a search looks
+-- once at each place and element
+pub record AreCycleLooks (v : Responses) (k looked : ℕ) : Type 0 where
+  pub some : 2 * k ≤ looked + 1
+  pub few : looked ≤ length v.elements * (6 * (place_count v + length v.elements))
+      + k * (place_count v + length v.elements)

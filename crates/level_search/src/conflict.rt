@@ -3,6 +3,7 @@
 ghost use Rattle.std.specs.Prelude.{◌≡◌, ◌⊎◌, ◌↔◌, ◌<◌, IfOk, IfSome, IsErrOf};
 ghost use Rattle.specification.specs.Conflict.{IsConflictNumber};
 ghost use Rattle.level_search.specs.Conflicts.{AreLooksIn, IsFound, IsLeastConflict, IsWithinSearches};
+ghost use Rattle.level_search.specs.Looks.{AreCycleLooks};
 
 use super::MOST_WORKERS;
 use super::cycle_core::Core;
@@ -102,12 +103,14 @@ pub fn conflict_number<H: Threads + Sync, G: Gate>(
 }
 
 /// A conflict: its number, and the steps of the least cycle, as many; and how many looks the searches for the
-/// number took together, at rows of their table or at places and elements, up to 18446744073709551615.
+/// number took together, at rows of their table or at places and elements, and how many the search for the
+/// least cycle took, each up to 18446744073709551615.
 #[derive(Drop)]
 pub struct Conflict {
     pub k: u32,
     pub steps: Steps,
     pub looked: u64,
+    pub cycle_looked: u64,
 }
 
 /// The conflict number and the least cycle, as `conflict_number` and `least_cycle` find them; none where
@@ -122,13 +125,14 @@ pub fn least_conflict<H: Threads + Sync, G: Gate>(
     ensures conflict { IfOk result (IsLeastConflict graph.now) }
     ensures looked { IfOk result (λ found. IfSome found (λ c. AreLooksIn graph.now c.k c.looked)) }
     ensures few { IfOk result (λ found. IfSome found (λ c. IsWithinSearches graph.now c.looked)) }
+    ensures cycle { IfOk result (λ found. IfSome found (λ c. AreCycleLooks graph.now c.k c.cycle_looked)) }
     ensures workers { IsErrOf result SearchFault.Workers ↔ ((workers < 1) ⊎ (MOST_WORKERS < workers)) }
 {
     let found = search_core(rt, alloc, graph, workers, gate)?;
     if found.least == NO_OFFER {
         return Ok(None);
     }
-    let steps = least_cycle_from(
+    let cycle = least_cycle_from(
         alloc,
         &found.core.graph,
         found.core.searched(),
@@ -138,7 +142,8 @@ pub fn least_conflict<H: Threads + Sync, G: Gate>(
     )?;
     Ok(Some(Conflict {
         k: found.least,
-        steps,
+        steps: cycle.steps,
         looked: found.looked,
+        cycle_looked: cycle.looked,
     }))
 }

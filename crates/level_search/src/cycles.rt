@@ -4,6 +4,7 @@ ghost use Rattle.std.specs.Prelude.{◌≡◌, ◌<◌, All, IfOk, length};
 ghost use Rattle.specification.specs.Conflict.{AreLeastSteps};
 ghost use Rattle.specification.specs.Search.{IsShortestLength};
 ghost use Rattle.order_graph.specs.Lists.{lists_of};
+ghost use Rattle.level_search.specs.Looks.{AreCycleLooks};
 ghost use Rattle.level_search.specs.Sources.{MeetsCycles};
 ghost use Rattle.level_search.specs.Thinned.{IsThinned};
 ghost use Rattle.level_search.specs.Ways.{IsWay};
@@ -19,7 +20,7 @@ use super::sources::feedback_vertex_set;
 use crate::ways::Way;
 use events::Memory;
 use order_graph::OrderGraph;
-use ring::least_ring;
+use ring::{Ring, least_ring};
 use std::alloc::Global;
 use steps::steps_of;
 use witnesses::Steps;
@@ -44,10 +45,18 @@ pub fn least_cycle(alloc: Global, graph: &OrderGraph, k: u32) -> Result<Steps, M
     let way = Way::of(alloc, searched)?;
     let sources = feedback_vertex_set(alloc, searched, &way)?;
     let way = way.with_lower_bounds(alloc, searched, &sources)?;
-    least_cycle_from(alloc, &core.graph, searched, &way, &sources, k)
+    let cycle = least_cycle_from(alloc, &core.graph, searched, &way, &sources, k)?;
+    Ok(cycle.steps)
 }
 
-/// The same, where searches go in a graph with fewer lists, which shows the same, and this way; and each cycle
+/// The steps of a cycle, and how many looks the search for it took, up to 18446744073709551615.
+#[derive(Drop)]
+pub struct Cycle {
+    pub steps: Steps,
+    pub looked: u64,
+}
+
+/// The same, with its looks, where searches go in a graph with fewer lists, which shows the same, and this way; and each cycle
 /// leads through one of these sources. The operations of the steps are those of the whole.
 pub fn least_cycle_from(
     alloc: Global,
@@ -56,17 +65,22 @@ pub fn least_cycle_from(
     way: &Way,
     sources: &[u32],
     k: u32,
-) -> Result<Steps, Memory>
+) -> Result<Cycle, Memory>
     requires thin { IsThinned graph.now searched.now }
     requires way { IsWay searched.now way.now }
     requires known { All (λ s. s < length searched.now.elements) sources.now }
     requires met { MeetsCycles (lists_of searched.now) (length searched.now.elements) sources.now }
     requires shortest { IsShortestLength graph.now k }
-    ensures { IfOk result (λ steps. AreLeastSteps graph.now steps × (length steps ≡ k)) }
+    ensures steps { IfOk result (λ c. AreLeastSteps graph.now c.steps × (length c.steps ≡ k)) }
+    ensures looked { IfOk result (λ c. AreCycleLooks searched.now k c.looked) }
 {
     // Its contract has that the responses are proper.
     let _ = graph.elements();
     let ring = least_ring(alloc, searched, way, sources, k)?;
-    let steps = steps_of(alloc, graph, &ring)?;
-    Ok(Steps::from_items(steps))
+    let Ring { elements, looked } = ring;
+    let steps = steps_of(alloc, graph, &elements)?;
+    Ok(Cycle {
+        steps: Steps::from_items(steps),
+        looked,
+    })
 }

@@ -1,2 +1,3 @@
--- What contracts of this crate see: the verdict of the definitions.
+-- What contracts of this crate see: the verdict of the definitions, and how much was looked at for it.
 pub mod VerdictOf
+pub mod AllLooks

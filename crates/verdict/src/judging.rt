@@ -1,12 +1,14 @@
 //! The verdict on a recording.
 
-ghost use Rattle.std.specs.Prelude.{◌⊎◌, ◌↔◌, ◌<◌, IfNone, IfOk, IfSome, IsErrOf};
+ghost use Rattle.std.specs.Prelude.{◌≡◌, ◌⊎◌, ◌↔◌, ◌<◌, IfNone, IfOk, IfSome, IsErrOf, Some};
 ghost use Rattle.specification.specs.Faults.{IsSound};
 ghost use Rattle.specification.specs.Orders.{HasNoOrder, IsLeastOrder};
 ghost use Rattle.specification.specs.Responses.{responses_of};
 ghost use Rattle.specification.specs.Verdict.{IsVerdict, DecidesSpecifications, ProvesItself};
 ghost use Rattle.order_graph.specs.Covers.{IsCoveredBy};
-ghost use Rattle.level_search.specs.Conflicts.{IsLeastConflict};
+ghost use Rattle.level_search.specs.Conflicts.{AreLooksIn, IsLeastConflict, IsWithinSearches};
+ghost use Rattle.level_search.specs.Looks.{AreCycleLooks};
+ghost use Rattle.verdict.specs.AllLooks.{AreLooksFor};
 ghost use Rattle.verdict.specs.VerdictOf.{IsRefusal, verdict_of};
 
 use super::verdict::Verdict;
@@ -50,14 +52,16 @@ pub fn judge<H: Threads + Sync, G: Gate>(
     Ok(found.verdict)
 }
 
-/// A verdict, and the graph of the recording's responses where the verdict is a refusal.
+/// A verdict, and the graph of the recording's responses where the verdict is a refusal; and how many looks all
+/// searches took together, up to 18446744073709551615, or 0 where there was none.
 #[derive(Drop)]
 pub struct Judged {
     pub verdict: Verdict,
     pub graph: Option<OrderGraph>,
+    pub looked: u64,
 }
 
-/// The verdict on a recording, as `judge` has it, and the graph that it was found in.
+/// The verdict on a recording, as `judge` has it, the graph that it was found in, and the looks of the searches.
 pub fn verdict_and_graph<H: Threads + Sync, G: Gate>(
     rt: &H,
     alloc: Global,
@@ -68,6 +72,9 @@ pub fn verdict_and_graph<H: Threads + Sync, G: Gate>(
     ensures verdict { IfOk result (λ found. IsVerdict recording.now (verdict_of found.verdict)) }
     ensures graph { IfOk result (λ found. IfSome found.graph (IsCoveredBy (responses_of recording.now))) }
     ensures refusal { IfOk result (λ found. IfNone found.graph (¬ IsRefusal (verdict_of found.verdict))) }
+    ensures looked { IfOk result (λ found. IfSome found.graph (λ g. AreLooksFor g (verdict_of found.verdict)
+        found.looked)) }
+    ensures none { IfOk result (λ found. IfNone found.graph (found.looked ≡ 0)) }
     ensures workers { IsErrOf result SearchFault.Workers ↔ ((workers < 1) ⊎ (MOST_WORKERS < workers)) }
 {
     if workers == 0 || workers > MOST_WORKERS {
@@ -79,6 +86,7 @@ pub fn verdict_and_graph<H: Threads + Sync, G: Gate>(
             return Ok(Judged {
                 verdict: Verdict::of_fault(fault),
                 graph: None,
+                looked: 0,
             });
         },
         Checked::Sound(numbered) => numbered,
@@ -88,14 +96,11 @@ pub fn verdict_and_graph<H: Threads + Sync, G: Gate>(
         return Ok(Judged {
             verdict: accepted(recording, &graph, order),
             graph: None,
+            looked: 0,
         });
     }
     let found = least_conflict(rt, alloc, &graph, workers, gate)?;
-    let verdict = refused(recording, &graph, found);
-    Ok(Judged {
-        verdict,
-        graph: Some(graph),
-    })
+    Ok(refused(recording, graph, found))
 }
 
 /// The verdict on a recording without a fault: this is the least order that all responses follow.
@@ -111,20 +116,32 @@ fn accepted(recording: &Recording, graph: &OrderGraph, order: Order) -> Verdict
 
 /// The verdict on a recording without a fault, where no order follows all responses: this is their least
 /// conflict.
-fn refused(recording: &Recording, graph: &OrderGraph, found: Option<Conflict>) -> Verdict
+fn refused(recording: &Recording, graph: OrderGraph, found: Option<Conflict>) -> Judged
     requires sound { IsSound recording.now }
-    requires covered { IsCoveredBy (responses_of recording.now) graph.now }
-    requires disordered { HasNoOrder graph.now }
-    requires found { IsLeastConflict graph.now found }
-    ensures { IsVerdict recording.now (verdict_of result) }
+    requires covered { IsCoveredBy (responses_of recording.now) graph }
+    requires disordered { HasNoOrder graph }
+    requires found { IsLeastConflict graph found }
+    requires looked { IfSome found (λ c. AreLooksIn graph c.k c.looked) }
+    requires few { IfSome found (λ c. IsWithinSearches graph c.looked) }
+    requires cycle { IfSome found (λ c. AreCycleLooks graph c.k c.cycle_looked) }
+    ensures verdict { IsVerdict recording.now (verdict_of result.verdict) }
+    ensures graph { result.graph ≡ Some graph }
+    ensures looked { AreLooksFor graph (verdict_of result.verdict) result.looked }
 {
     // For their clauses: the recording is legal, and the graph's responses are proper.
     let _ = recording.replicas();
     let _ = graph.elements();
     match found {
-        Some(conflict) => Verdict::Refused {
-            k: conflict.k,
-            steps: conflict.steps,
+        Some(conflict) => {
+            let looked = conflict.looked.saturating_add(conflict.cycle_looked);
+            Judged {
+                verdict: Verdict::Refused {
+                    k: conflict.k,
+                    steps: conflict.steps,
+                },
+                graph: Some(graph),
+                looked,
+            }
         },
         None => unreachable!(),
     }

@@ -87,6 +87,7 @@ fn counted(conflict: Option<Conflict>) -> Option<Steps> {
                 k,
                 steps,
                 looked: _,
+                cycle_looked: _,
             },
         ) if k as usize == steps.len() => Some(steps),
         _ => None,

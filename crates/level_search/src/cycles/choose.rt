@@ -1,6 +1,7 @@
 //! The least element that comes next on a shortest way back.
 
 ghost use Rattle.std.specs.Prelude.{◌≡◌, ◌⊎◌, ◌↔◌, ℕ, ◌+◌, ◌<◌, ◌≤◌, Some, length, slice_get, slice_index};
+ghost use Rattle.specification.specs.Responses.{place_count};
 ghost use Rattle.order_graph.specs.Lists.{lists_of, row, Stands};
 ghost use Rattle.order_graph.specs.Spots.{spots_of};
 ghost use Rattle.order_graph.specs.declared.spot.Spot.{Spot};
@@ -26,6 +27,8 @@ fn less_at(
     ensures falls { result ≤ best }
     ensures first { (result ≡ best) ⊎ (Stands (lists_of graph.now) list j result
         × (slice_index depths.now result ≡ depth)) }
+    ensures looked { looked.new ≤ looked.old + 1 }
+    ensures forward { looked.old ≤ looked.new }
 {
     match graph.place(list, j, looked) {
         Some(y) if depths[y as usize] == depth && y < best => y,
@@ -49,6 +52,8 @@ fn less_behind(
     ensures falls { result ≤ best }
     ensures first { (result ≡ best) ⊎ (IsAfter (lists_of graph.now) spot.list spot.place result
         × (slice_index depths.now result ≡ depth)) }
+    ensures looked { looked.new ≤ looked.old + length (row (lists_of graph.now) spot.list) }
+    ensures forward { looked.old ≤ looked.new }
 {
     let end = graph.length(spot.list);
     let mut least = best;
@@ -75,6 +80,9 @@ fn less_behind_spot(
     ensures falls { result ≤ best }
     ensures first { (result ≡ best) ⊎ (Before (lists_of graph.now) a result
         × (slice_index depths.now result ≡ depth)) }
+    ensures looked { (q : Spot) → slice_get (spots_of (lists_of graph.now) a) i ≡ Some q
+        → looked.new ≤ looked.old + length (row (lists_of graph.now) q.list) }
+    ensures forward { looked.old ≤ looked.new }
 {
     match graph.spot(a, i) {
         Some(spot) => less_behind(graph, spot, depths, depth, best, looked),
@@ -82,13 +90,16 @@ fn less_behind_spot(
     }
 }
 
-/// The least element of this depth before which `a` stands; the number of elements where there is none.
+/// The least element of this depth before which `a` stands; the number of elements where there is none. It
+/// looks at no place twice: the spots of `a` are in different lists.
 fn least_next(graph: &OrderGraph, a: u32, depths: &[u32], depth: u32, looked: &mut Looked) -> u32
     requires { length depths.now ≡ length graph.now.elements }
     ensures least { (y : ℕ) → Before (lists_of graph.now) a y → slice_index depths.now y ≡ depth
         → result ≤ y }
     ensures first { (result ≡ length graph.now.elements)
         ⊎ (Before (lists_of graph.now) a result × (slice_index depths.now result ≡ depth)) }
+    ensures looked { looked.new ≤ looked.old + place_count graph.now }
+    ensures forward { looked.old ≤ looked.new }
 {
     let mut least = graph.elements();
     for i in 0..graph.spots(a) {
@@ -111,7 +122,9 @@ pub fn next_of_ring(
     requires depths { (y : ℕ) → Before (lists_of graph.now) a y → (slice_index depths.now y ≡ n)
         ↔ Reaches (lists_of graph.now) z n y }
     requires on { Reaches (lists_of graph.now) z (n + 1) a }
-    ensures { IsLeastNext (lists_of graph.now) z n a result }
+    ensures next { IsLeastNext (lists_of graph.now) z n a result }
+    ensures looked { looked.new ≤ looked.old + place_count graph.now }
+    ensures forward { looked.old ≤ looked.new }
 {
     // Its contract has that the responses are proper.
     let _ = graph.elements();

@@ -1,7 +1,8 @@
 //! How many steps lead from one element to each, and back.
 
-ghost use Rattle.std.specs.Prelude.{◌≡◌, ℕ, ◌<◌, ◌≤◌, IfOk, length, replicate, slice_index, vec_len};
-ghost use Rattle.order_graph.specs.Lists.{lists_of};
+ghost use Rattle.std.specs.Prelude.{◌≡◌, ℕ, ◌+◌, ◌<◌, ◌≤◌, IfOk, length, replicate, slice_index, vec_len};
+ghost use Rattle.specification.specs.Responses.{place_count};
+ghost use Rattle.order_graph.specs.Lists.{lists_of, ticked};
 ghost use Rattle.list_search.specs.Clean.{IsReady};
 ghost use Rattle.list_search.specs.Distances.{AreDistances, AreReached};
 ghost use Rattle.list_search.specs.Rings.{AreDistancesTo};
@@ -9,7 +10,7 @@ ghost use Rattle.level_search.specs.Rounds.{FitsDepths, FitsDistances};
 
 use events::Memory;
 use list_search::{ReadyScratch, distances_ready};
-use order_graph::OrderGraph;
+use order_graph::{Looked, OrderGraph};
 use std::alloc::Global;
 
 /// How many steps lead to each element, at the least, as the last search found; its limit, where so few don't.
@@ -51,13 +52,23 @@ impl Depths {
 
     /// Finds how many steps lead from an element to each. Beside what it erases of the last search it takes
     /// steps for what it reaches alone, and the places where that stands.
-    fn find(&mut self, graph: &OrderGraph, element: u32, limit: u32, scratch: &mut ReadyScratch)
+    fn find(
+        &mut self,
+        graph: &OrderGraph,
+        element: u32,
+        limit: u32,
+        scratch: &mut ReadyScratch,
+        looked: &mut Looked,
+    )
         requires known { element < length graph.now.elements }
         requires fits { FitsDepths (length graph.now.elements) limit self.old }
         requires ready { IsReady scratch.old graph.now }
         ensures fits { FitsDepths (length graph.now.elements) limit self.new }
         ensures ready { IsReady scratch.new graph.now }
         ensures depths { AreDistances (lists_of graph.now) element limit self.new.depths.items }
+        ensures looked { looked.new ≤ looked.old + (place_count graph.now + length graph.now.elements) }
+        ensures forward { looked.old ≤ looked.new }
+        ensures some { 1 < limit → ticked looked.old ≤ looked.new }
     {
         self.erase(limit);
         self.count = distances_ready(
@@ -68,6 +79,7 @@ impl Depths {
             self.depths.as_mut_slice(),
             self.reached.as_mut_slice(),
         );
+        looked.add(scratch.looked());
     }
 }
 
@@ -101,27 +113,34 @@ impl Distances {
 
     /// Finds how many steps lead from each element to this one, at the least; the limit, where so few don't.
     /// It takes steps for what it reaches alone, as for what the search before it reached.
-    pub fn find_to(&mut self, graph: &OrderGraph, element: u32, limit: u32)
+    pub fn find_to(&mut self, graph: &OrderGraph, element: u32, limit: u32, looked: &mut Looked)
         requires known { element < length graph.now.elements }
         requires fits { FitsDistances graph.now limit self.old }
         ensures fits { FitsDistances graph.now limit self.new }
         ensures to { AreDistancesTo (lists_of graph.now) element limit self.new.to.depths.items }
+        ensures looked { looked.new ≤ looked.old + (place_count graph.now + length graph.now.elements) }
+        ensures forward { looked.old ≤ looked.new }
+        ensures some { 1 < limit → ticked looked.old ≤ looked.new }
     {
         // Its contract has that the responses are proper.
         let _ = graph.elements();
         self.to
-            .find(&self.turned, element, limit, &mut self.scratch);
+            .find(&self.turned, element, limit, &mut self.scratch, looked);
     }
 
     /// Finds how many steps lead from this element to each, at the least; the limit, where so few don't. It
     /// takes steps for what it reaches alone, as for what the search before it reached.
-    pub fn find_from(&mut self, graph: &OrderGraph, element: u32, limit: u32)
+    pub fn find_from(&mut self, graph: &OrderGraph, element: u32, limit: u32, looked: &mut Looked)
         requires known { element < length graph.now.elements }
         requires fits { FitsDistances graph.now limit self.old }
         ensures fits { FitsDistances graph.now limit self.new }
         ensures to { self.new.to ≡ self.old.to }
         ensures from { AreDistances (lists_of graph.now) element limit self.new.from.depths.items }
+        ensures looked { looked.new ≤ looked.old + (place_count graph.now + length graph.now.elements) }
+        ensures forward { looked.old ≤ looked.new }
+        ensures some { 1 < limit → ticked looked.old ≤ looked.new }
     {
-        self.from.find(graph, element, limit, &mut self.scratch);
+        self.from
+            .find(graph, element, limit, &mut self.scratch, looked);
     }
 }

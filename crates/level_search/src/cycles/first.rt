@@ -1,10 +1,11 @@
 //! The least element through which a shortest cycle leads.
 
-ghost use Rattle.std.specs.Prelude.{◌≡◌, ◌⊎◌, ◌↔◌, ℕ, ◌+◌, ◌*◌, ◌<◌, ◌≤◌, All, true, length};
+ghost use Rattle.std.specs.Prelude.{◌≡◌, ◌⊎◌, ◌↔◌, ℕ, ◌+◌, ◌*◌, ◌-◌, ◌<◌, ◌≤◌, All, true, length};
 ghost use Rattle.specification.specs.Responses.{Responses, place_count};
 ghost use Rattle.specification.specs.Search.{IsShortestLength};
 ghost use Rattle.order_graph.specs.Lists.{lists_of};
 ghost use Rattle.list_search.specs.Walks.{HasCycle, NoneShorter};
+ghost use Rattle.level_search.specs.Looks.{HasRisenBy};
 ghost use Rattle.level_search.specs.Rounds.{FitsDistances, IsBetween, IsRoundOf};
 ghost use Rattle.level_search.specs.Sources.{MeetsCycles};
 ghost use Rattle.level_search.specs.Ways.{FitsRoom, IsWay};
@@ -30,9 +31,12 @@ fn is_on_ring(
     ensures fits { FitsRoom graph.now room.new }
     ensures answer { (result ≡ true) ↔ HasCycle (lists_of graph.now) element k }
     ensures looked { looked.new ≤ looked.old + 2 * (place_count graph.now + length graph.now.elements) }
+    ensures forward { looked.old ≤ looked.new }
+    ensures found { result ≡ true → HasRisenBy (2 * k - 1) looked.old looked.new }
 {
-    // Its contract has that the responses are proper.
+    // Their contracts have that the responses are proper, and that a count has 64 bits.
     let _ = graph.elements();
+    let _ = looked.count();
     let mut bound = PlainBound { least: k + 1 };
     search_through(graph, way, element, room, looked, &mut bound).is_some()
 }
@@ -68,7 +72,13 @@ fn first_between(distances: &Distances, k: u32, element: u32) -> u32
 }
 
 /// The least element of all shortest cycles through an element.
-fn least_round(graph: &OrderGraph, element: u32, k: u32, distances: &mut Distances) -> u32
+fn least_round(
+    graph: &OrderGraph,
+    element: u32,
+    k: u32,
+    distances: &mut Distances,
+    looked: &mut Looked,
+) -> u32
     requires known { element < length graph.now.elements }
     requires fits { FitsDistances graph.now k distances.old }
     requires cycle { HasCycle (lists_of graph.now) element k }
@@ -76,11 +86,13 @@ fn least_round(graph: &OrderGraph, element: u32, k: u32, distances: &mut Distanc
     ensures fits { FitsDistances graph.now k distances.new }
     ensures cycle { HasCycle (lists_of graph.now) result k }
     ensures least { (t : ℕ) → IsRoundOf (lists_of graph.now) element k t → result ≤ t }
+    ensures looked { looked.new ≤ looked.old + 2 * (place_count graph.now + length graph.now.elements) }
+    ensures forward { looked.old ≤ looked.new }
 {
     // Its contract has that the responses are proper.
     let _ = graph.elements();
-    distances.find_to(graph, element, k);
-    distances.find_from(graph, element, k);
+    distances.find_to(graph, element, k, looked);
+    distances.find_from(graph, element, k, looked);
     first_between(distances, k, element)
 }
 
@@ -105,14 +117,16 @@ fn least_of_source(
     ensures falls { result ≤ least }
     ensures found { (result ≡ least) ⊎ HasCycle (lists_of graph.now) result k }
     ensures round { (t : ℕ) → IsRoundOf (lists_of graph.now) source k t → result ≤ t }
-    ensures looked { looked.new ≤ looked.old + 2 * (place_count graph.now + length graph.now.elements) }
+    ensures looked { looked.new ≤ looked.old + 4 * (place_count graph.now + length graph.now.elements) }
+    ensures forward { looked.old ≤ looked.new }
+    ensures searched { (result ≡ least) ⊎ HasRisenBy (2 * k - 1) looked.old looked.new }
 {
     // Its contract has that the responses are proper.
     let _ = graph.elements();
     if !is_on_ring(graph, way, source, k, room, looked) {
         return least;
     }
-    least.min(least_round(graph, source, k, distances))
+    least.min(least_round(graph, source, k, distances, looked))
 }
 
 /// The least element through which a shortest cycle leads.
@@ -142,10 +156,11 @@ fn first_on_ring(
     ensures cycle { HasCycle (lists_of graph.now) result k }
     ensures lowest { (t : ℕ) → t < length graph.now.elements → HasCycle (lists_of graph.now) t k
         → result ≤ t }
-    ensures looked { looked.new ≤ looked.old + (result + 1) * (4 * (place_count graph.now
+    ensures looked { looked.new ≤ looked.old + (result + 1) * (6 * (place_count graph.now
         + length graph.now.elements)) }
-    ensures few { looked.new ≤ looked.old + (length sources.now + 1) * (4 * (place_count graph.now
+    ensures few { looked.new ≤ looked.old + (length sources.now + 1) * (6 * (place_count graph.now
         + length graph.now.elements)) }
+    ensures found { HasRisenBy (2 * k - 1) looked.old looked.new }
 {
     let mut least = graph.elements();
     for i in 0..graph.elements() {
@@ -184,6 +199,9 @@ fn first_in_order(
     ensures cycle { HasCycle (lists_of graph.now) result k }
     ensures lowest { (t : ℕ) → t < length graph.now.elements → HasCycle (lists_of graph.now) t k
         → result ≤ t }
+    ensures looked { looked.new ≤ looked.old + (result + 1) * (2 * (place_count graph.now
+        + length graph.now.elements)) }
+    ensures found { HasRisenBy (2 * k - 1) looked.old looked.new }
 {
     for i in 0..graph.elements() {
         if is_on_ring(graph, way, i, k, room, looked) {
@@ -215,6 +233,9 @@ pub fn first_element(
     ensures cycle { HasCycle (lists_of graph.now) result k }
     ensures lowest { (t : ℕ) → t < length graph.now.elements → HasCycle (lists_of graph.now) t k
         → result ≤ t }
+    ensures looked { looked.new ≤ looked.old + (result + 1) * (6 * (place_count graph.now
+        + length graph.now.elements)) }
+    ensures found { HasRisenBy (2 * k - 1) looked.old looked.new }
 {
     if way.table.is_some() {
         return first_in_order(graph, way, k, room, looked);

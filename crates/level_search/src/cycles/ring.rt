@@ -1,10 +1,11 @@
 //! The first in dictionary order of the shortest rings.
 
-ghost use Rattle.std.specs.Prelude.{◌≡◌, ℕ, ◌-◌, ◌<◌, All, IfOk, length, slice_index};
-ghost use Rattle.specification.specs.Responses.{AreProper};
+ghost use Rattle.std.specs.Prelude.{◌≡◌, ℕ, ◌+◌, ◌*◌, ◌-◌, ◌<◌, ◌≤◌, All, IfOk, length, slice_index};
+ghost use Rattle.specification.specs.Responses.{AreProper, place_count};
 ghost use Rattle.specification.specs.Search.{IsShortestLength};
 ghost use Rattle.order_graph.specs.Lists.{lists_of};
 ghost use Rattle.list_search.specs.Rings.{IsFirstRing, IsLeastNext};
+ghost use Rattle.level_search.specs.Looks.{AreCycleLooks};
 ghost use Rattle.level_search.specs.Rounds.{FitsDistances};
 ghost use Rattle.level_search.specs.Sources.{MeetsCycles};
 ghost use Rattle.level_search.specs.Ways.{IsWay};
@@ -25,6 +26,7 @@ fn ring_from(
     element: u32,
     k: u32,
     distances: &mut Distances,
+    looked: &mut Looked,
 ) -> Result<Vec<u32>, Memory>
     requires fits { FitsDistances graph.now k distances.old }
     requires known { element < length graph.now.elements }
@@ -35,21 +37,31 @@ fn ring_from(
     ensures chosen { IfOk result (λ v. (j : ℕ) → 0 < j → j < k
         → IsLeastNext (lists_of graph.now) element (k - j) (slice_index v.items (j - 1))
         (slice_index v.items j)) }
+    ensures looked { IfOk result (λ v. looked.new ≤ looked.old + k * (place_count graph.now
+        + length graph.now.elements)) }
+    ensures forward { looked.old ≤ looked.new }
 {
     // Its contract has that the responses are proper.
     let _ = graph.elements();
     // The cycle is a shortest, so what its i-th element stands before and leads back in k - i steps has just
     // this distance.
-    distances.find_to(graph, element, k);
-    let mut looked = Looked::new();
+    distances.find_to(graph, element, k, looked);
     let mut ring = Vec::new(alloc);
     ring.push(element)?;
     let mut a = element;
     for i in 1..k {
-        a = next_of_ring(graph, element, k - i, a, &distances.to.depths, &mut looked);
+        a = next_of_ring(graph, element, k - i, a, &distances.to.depths, looked);
         ring.push(a)?;
     }
     Ok(ring)
+}
+
+/// A cycle, by the numbers of its elements; and how many looks the search for it took, up to
+/// 18446744073709551615.
+#[derive(Drop)]
+pub struct Ring {
+    pub elements: Vec<u32>,
+    pub looked: u64,
 }
 
 /// The first in dictionary order of the cycles of the shortest length, k.
@@ -59,13 +71,14 @@ pub fn least_ring(
     way: &Way,
     sources: &[u32],
     k: u32,
-) -> Result<Vec<u32>, Memory>
+) -> Result<Ring, Memory>
     requires way { IsWay graph.now way.now }
     requires known { All (λ s. s < length graph.now.elements) sources.now }
     requires met { MeetsCycles (lists_of graph.now) (length graph.now.elements) sources.now }
     requires least { IsShortestLength graph.now k }
     ensures proper { AreProper graph.now }
-    ensures first { IfOk result (λ v. IsFirstRing (lists_of graph.now) k v.items) }
+    ensures first { IfOk result (λ r. IsFirstRing (lists_of graph.now) k r.elements.items) }
+    ensures looked { IfOk result (λ r. AreCycleLooks graph.now k r.looked) }
 {
     // Its contract has that the responses are proper.
     let _ = graph.elements();
@@ -81,6 +94,9 @@ pub fn least_ring(
         &mut distances,
         &mut looked,
     );
-    let ring = ring_from(alloc, graph, element, k, &mut distances)?;
-    Ok(ring)
+    let elements = ring_from(alloc, graph, element, k, &mut distances, &mut looked)?;
+    Ok(Ring {
+        elements,
+        looked: looked.count(),
+    })
 }

@@ -1,8 +1,12 @@
-use Rattle.std.proofs.Common.{subst}
+use Rattle.std.proofs.Common.{ℕ, List, length, subst, sym}
 use Rattle.specification.specs.Responses.{Responses}
+use Rattle.order_graph.specs.Lists.{lists_of}
 use Rattle.level_search.proofs.Cores.{least_steps, no_conflict, some_conflict}
 use Rattle.level_search.proofs.Lengths.{shortest}
+use Rattle.level_search.proofs.Placed.{cycle-looks-whole}
 use Rattle.level_search.specs.Conflicts.{searched_in}
+use Rattle.level_search.specs.Looks.{AreCycleLooks}
+use Rattle.level_search.specs.Sources.{MeetsCycles}
 use Rattle.level_search.specs.Thinned.{IsThinned}
 use Rattle.level_search.proofs.conflict.least_conflict.Goals as goal
 
@@ -11,6 +15,14 @@ least_cycle_from-requires-clause-shortest g c =
     shortest c.in_ok-found.found.core.graph c.in_ok-found.found.least c.in_ok-found.ensures.least.least
     c.if-found.false
 
+pub least_cycle_from-requires-clause-met : goal.least_cycle_from-requires-clause-met
+least_cycle_from-requires-clause-met g c =
+    let part : Responses = c.searched.result.now in
+    subst (λ (xs : List ℕ). MeetsCycles (lists_of part) (length part.elements) xs)
+    (sym c.deref.ensures.value)
+    (subst (λ (w : Responses). MeetsCycles (lists_of w) (length w.elements) c.in_ok-found.found.sources.items)
+    (sym c.searched.ensures) c.in_ok-found.ensures.least.met)
+
 pub returns-then-found-clause-conflict : goal.returns-then-found-clause-conflict
 returns-then-found-clause-conflict g c =
     no_conflict c.args.graph.now c.in_ok-found.found c.in_ok-found.ensures.least c.if-found.true
@@ -18,9 +30,9 @@ returns-then-found-clause-conflict g c =
 pub returns-clause-conflict : goal.returns-clause-conflict
 returns-clause-conflict g c =
     let is = c.in_ok-found.ensures.least in
-    let made = c.in_ok-steps.ensures in (
+    let made = c.in_ok-cycle.ensures.steps in (
       some_conflict c.args.graph.now c.in_ok-found.found is c.if-found.false,
-      least_steps c.args.graph.now c.in_ok-found.found is c.in_ok-steps.steps made.0,
+      least_steps c.args.graph.now c.in_ok-found.found is c.in_ok-cycle.cycle.steps made.0,
       made.1,
     )
 
@@ -38,3 +50,14 @@ returns-clause-looked g c =
 
 pub returns-clause-few : goal.returns-clause-few
 returns-clause-few g c = c.in_ok-found.ensures.least.few
+
+pub returns-clause-cycle : goal.returns-clause-cycle
+returns-clause-cycle g c =
+    let v : Responses = c.args.graph.now in
+    let is = c.in_ok-found.ensures.least in
+    let part : Responses = searched_in c.in_ok-found.found.core in
+    let k : ℕ = c.in_ok-found.found.least in
+    let looked : ℕ = c.in_ok-cycle.cycle.looked in
+    let here : AreCycleLooks part k looked =
+    subst (λ (w : Responses). AreCycleLooks w k looked) c.searched.ensures c.in_ok-cycle.ensures.looked in
+    cycle-looks-whole part v k looked is.elements_few is.places_few here

@@ -50,6 +50,8 @@ returns-clause-least g c =
       looked = looked;
       few = within-searches v _ _ _ _ (rw left core.few.0) (rw left core.few.1)
           (omega (arith, total, fewer, thinned-places whole part thin)) looked;
+      elements_few = rw left core.few.0;
+      places_few = omega (arith, fewer, thinned-places whole part thin);
       known =
           subst (λ (w : Responses). All (λ x. x < length w.elements) c.in_ok-sources.sources.items) here
           c.in_ok-sources.ensures.known;

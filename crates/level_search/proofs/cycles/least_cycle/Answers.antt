@@ -1,6 +1,5 @@
 -- What is shortest and least in the core is so in the whole.
 use Rattle.std.proofs.Common.{sym, subst}
-use Rattle.std.proofs.lemmas.Result.{IfOk-weaker}
 use Rattle.level_search.proofs.Cores.{shortest_in_core, steps_of_core}
 use Rattle.level_search.specs.Thinned.{searched_of, IsThinned}
 use Rattle.level_search.proofs.Thinned.{searched-thinned}
@@ -27,10 +26,9 @@ least_cycle_from-requires-clause-thin c =
 pub returns : goal.returns
 returns c =
     let core = c.in_ok-core.ensures in
-    IfOk-weaker c.least_cycle_from.result _ _
-    (λ steps are. (
+    let are = c.in_ok-cycle.ensures.steps in (
       steps_of_core c.args.graph.now c.elements.ensures.proper c.in_ok-core.core.elements.items
-          core.elements c.in_ok-core.core.graph core.graph c.elements-2.ensures.proper steps are.0,
+          core.elements c.in_ok-core.core.graph core.graph c.elements-2.ensures.proper
+          c.in_ok-cycle.cycle.steps are.0,
       are.1,
-    ))
-    c.least_cycle_from.ensures
+    )

@@ -15,14 +15,14 @@ least_ring-requires-clause-least c =
 pub steps_of-requires-clause-ring : goal.steps_of-requires-clause-ring
 steps_of-requires-clause-ring c =
     let first =
-    first-ring-whole c.args.graph.now c.args.searched.now c.requires.thin c.args.k c.in_ok-ring.ring.items
+    first-ring-whole c.args.graph.now c.args.searched.now c.requires.thin c.args.k c.in_ok-ring.ring.elements.items
     c.in_ok-ring.ensures.first in
     subst (IsRing (lists_of c.args.graph.now)) (sym c.deref.ensures.value) first.is_ring
 
-pub returns : goal.returns
-returns c =
+pub returns-clause-steps : goal.returns-clause-steps
+returns-clause-steps c =
     let v = c.args.graph.now in
-    let numbers : List ℕ = c.in_ok-ring.ring.items in
+    let numbers : List ℕ = c.in_ok-ring.ring.elements.items in
     let steps : List Step = c.in_ok-steps.steps.items in
     let same : c.deref.result.now ≡ numbers = c.deref.ensures.value in
     let made = c.in_ok-steps.ensures in

@@ -1,5 +1,7 @@
-use Rattle.std.proofs.Common.{sym, inl, inr}
-use Rattle.order_graph.specs.Lists.{lists_of, Stands}
+use Rattle.std.proofs.Common.{◌+◌, ◌≤◌, ◌∙◌, length, sym, subst, inl, inr}
+use Rattle.std.proofs.lemmas.Option.{same_Some}
+use Rattle.order_graph.specs.Lists.{lists_of, row, Stands}
+use Rattle.order_graph.specs.declared.spot.Spot.{Spot}
 use Rattle.list_search.specs.Progress.{IsAfter}
 use Rattle.order_graph.proofs.AllSpots.{spots_sound}
 use Rattle.level_search.proofs.cycles.choose.less_behind_spot.Goals as goal
@@ -30,3 +32,9 @@ returns-in-Some-clause-first c =
             less.1,
           )
     ]
+
+pub returns-in-Some-clause-looked : goal.returns-in-Some-clause-looked
+returns-in-Some-clause-looked c = λ q get.
+    subst (λ (s : Spot). c.less_behind.new.looked
+    ≤ c.args.looked.now + length (row (lists_of c.args.graph.now) s.list))
+    (same_Some c.in-Some.spot q (c.in-Some.ensures ∙ get)) c.less_behind.ensures.looked

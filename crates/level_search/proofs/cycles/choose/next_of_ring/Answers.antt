@@ -5,8 +5,8 @@ use Rattle.list_search.specs.Rings.{Reaches}
 use Rattle.list_search.proofs.Joining.{before-known}
 use Rattle.level_search.proofs.cycles.choose.next_of_ring.Goals as goal
 
-pub returns : goal.returns
-returns c =
+pub returns-clause-next : goal.returns-clause-next
+returns-clause-next c =
     let v = c.args.graph.now in
     let on : Reaches (lists_of v) c.args.z (suc c.args.n) c.args.a =
     subst (λ n. Reaches (lists_of v) c.args.z n c.args.a) (add-one c.args.n) c.requires.on in

@@ -1,5 +1,5 @@
 -- One element and one source more; and at the end the least that was found is the one.
-use Rattle.std.proofs.Common.{◌≡◌, ℕ, ◌+◌, ◌*◌, ◌<◌, ◌≤◌, ◌⊎◌, inl, inr, length, get_or, sym}
+use Rattle.std.proofs.Common.{◌≡◌, ℕ, ◌+◌, ◌*◌, ◌-◌, ◌<◌, ◌≤◌, ◌⊎◌, inl, inr, length, get_or, sym}
 use Rattle.std.proofs.Common.{◌∙◌}
 use Rattle.std.proofs.Common.{subst, arith}
 use Rattle.std.proofs.lemmas.Bool.{cases_eq, false≢true}
@@ -7,6 +7,7 @@ use Rattle.std.proofs.Math.Nat.{add-mul}
 use Rattle.specification.specs.Responses.{Responses, place_count}
 use Rattle.order_graph.specs.Lists.{lists_of}
 use Rattle.list_search.specs.Walks.{HasCycle}
+use Rattle.level_search.specs.Looks.{HasRisenBy}
 use Rattle.level_search.specs.Rounds.{IsRoundOf}
 use Rattle.level_search.proofs.Rounds.{least-one, lowest-met, lowest-past}
 use Rattle.level_search.proofs.cycles.first.first_on_ring.Goals.{then-least-i-via-then-least-i}
@@ -73,7 +74,20 @@ loop-i-preserved c =
           ];
       turns = (let few = c.if-i-sources.false in omega arith);
       looked = (let one = c.is_on_ring.ensures.looked in let two = more.looked in let was = inv.looked in
-          omega (arith, add-mul i 1 (4 * (place_count v + n))));
+          omega (arith, add-mul i 1 (6 * (place_count v + n))));
+      forward = (let one = c.is_on_ring.ensures.forward in let two = more.forward in let was = inv.forward in
+          omega arith);
+      searched = (let one = c.is_on_ring.ensures.forward in let two = more.forward in
+          let was = inv.forward in
+          elim more.searched as (λ _. (c.least_of_source-least.result ≡ n)
+          ⊎ HasRisenBy (2 * c.args.k - 1) c.args.looked.now c.least_of_source-least.new.looked) [
+            | inl same ↦ elim inv.searched as (λ _. (c.least_of_source-least.result ≡ n)
+            ⊎ HasRisenBy (2 * c.args.k - 1) c.args.looked.now c.least_of_source-least.new.looked) [
+              | inl none ↦ inl (same ∙ none)
+              | inr risen ↦ inr (omega arith)
+            ]
+            | inr risen ↦ inr (omega arith)
+          ]);
     }
 
 pub returns-clause-known : goal.returns-clause-known
@@ -95,3 +109,27 @@ returns-clause-cycle c =
     (c.loop-i.invariant.none t (omega (arith, c.elements-i-end.ensures.value)) cycle) in
     (least-one v c.elements-least.ensures.proper c.args.k c.loop-i.least c.requires.shortest all
     c.loop-i.invariant.found).1
+
+pub returns-then-is_on_ring-clause-found : goal.returns-then-is_on_ring-clause-found
+returns-then-is_on_ring-clause-found c =
+    let risen = c.is_on_ring.ensures.found c.if-is_on_ring.true in
+    let was = c.loop-i.invariant.forward in
+    omega arith
+
+pub returns-then-least-i-clause-found : goal.returns-then-least-i-clause-found
+returns-then-least-i-clause-found c =
+    let known = returns-then-least-i-clause-known c in
+    elim c.loop-i.invariant.searched
+    as (λ _. HasRisenBy (2 * c.args.k - 1) c.args.looked.now c.loop-i.looked) [
+      | inl none ↦ absurd (omega arith)
+      | inr risen ↦ risen
+    ]
+
+pub returns-clause-found : goal.returns-clause-found
+returns-clause-found c =
+    let known = returns-clause-known c in
+    elim c.loop-i.invariant.searched
+    as (λ _. HasRisenBy (2 * c.args.k - 1) c.args.looked.now c.loop-i.looked) [
+      | inl none ↦ absurd (omega arith)
+      | inr risen ↦ risen
+    ]

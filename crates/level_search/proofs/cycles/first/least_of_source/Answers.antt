@@ -1,5 +1,5 @@
 -- Where the source is on no shortest cycle, nothing is on one through it.
-use Rattle.std.proofs.Common.{sym, ◌∙◌, arith}
+use Rattle.std.proofs.Common.{sym, ◌∙◌, arith, inr}
 use Rattle.std.proofs.lemmas.Bool.{false≢true}
 use Rattle.specification.specs.Responses.{Responses}
 use Rattle.list_search.proofs.Joining.{shortest_of_all}
@@ -23,3 +23,9 @@ returns-clause-round c = λ t round.
     let low = c.least_round.ensures.least t round in
     let least = c.min.ensures in
     omega arith
+
+pub returns-clause-searched : goal.returns-clause-searched
+returns-clause-searched c =
+    let risen = c.is_on_ring.ensures.found c.if-not-is_on_ring.false in
+    let up = c.least_round.ensures.forward in
+    inr (omega arith)

@@ -1,9 +1,11 @@
-use Rattle.std.proofs.Common.{◌≡◌, ℕ, suc, ◌+◌, ◌-◌, ◌<◌, ◌≤◌, ◌++◌, [], ◌∷◌, List, length, get_or, refl}
+use Rattle.std.proofs.Common.{◌≡◌, ℕ, suc, ◌+◌, ◌*◌, ◌-◌, ◌<◌, ◌≤◌, ◌++◌, [], ◌∷◌, List, length, get_or, refl}
 use Rattle.std.proofs.Common.{subst, sym, ap, ◌∙◌, arith, inl, inr}
 use Rattle.std.specs.Prelude.{◌↔◌}
 use Rattle.std.proofs.lemmas.Bool.{cases_eq}
 use Rattle.std.proofs.lemmas.Grind.{common_steps}
 use Rattle.std.proofs.lemmas.List.{get_or_append_left, get_or_push, length_push}
+use Rattle.std.proofs.Math.Nat.{add-mul}
+use Rattle.specification.specs.Responses.{place_count}
 use Rattle.order_graph.specs.Lists.{lists_of}
 use Rattle.list_search.specs.Rings.{IsLeastNext, Reaches}
 use Rattle.list_search.proofs.Firsts.{reaches_walk}
@@ -28,6 +30,8 @@ loop-i-init c =
       on = subst (λ n. Reaches rows s n s) (let e : k ≡ k - 1 + 1 = omega arith in e)
           (reaches_walk rows s k s c.requires.cycle.1);
       chosen = λ j low high. absurd (omega arith);
+      looked = omega (arith, c.find_to.ensures.looked);
+      forward = omega (arith, c.find_to.ensures.forward);
     }
 
 pub next_of_ring-a-requires-clause-depths : goal.next_of_ring-a-requires-clause-depths
@@ -73,7 +77,7 @@ loop-i-preserved c =
     ∙ ap (λ (l : List ℕ). get_or l j 0) (sym pushed) in
     let last : b ≡ get_or more i 0 =
     sym (get_or_push ring b 0 i count) ∙ ap (λ (l : List ℕ). get_or l i 0) (sym pushed) in
-    let chosen : IsLeastNext rows s (k - i) a b = c.next_of_ring-a.ensures in
+    let chosen : IsLeastNext rows s (k - i) a b = c.next_of_ring-a.ensures.next in
     record {
       count = let e = ap length pushed ∙ length_push ring b in omega arith;
       first = sym (old 0 (omega arith)) ∙ before.first;
@@ -90,4 +94,16 @@ loop-i-preserved c =
             rw (sym (old (j - 1) (omega arith)), sym (old j (omega arith)))
             (before.chosen j from (omega arith))
       ];
+      looked = (let v = c.args.graph.now in let one = c.next_of_ring-a.ensures.looked in
+          let was = before.looked in omega (arith, add-mul i 1 (place_count v + length v.elements)));
+      forward = (let one = c.next_of_ring-a.ensures.forward in let was = before.forward in omega arith);
     }
+
+pub returns-clause-looked : goal.returns-clause-looked
+returns-clause-looked c =
+    let v = c.args.graph.now in
+    let some : 1 ≤ c.args.k = c.requires.cycle.0 in
+    let past = c.loop-i-test.false in
+    let same : c.loop-i.i ≡ c.args.k = omega arith in
+    subst (λ n. c.loop-i.looked ≤ c.args.looked.now + n * (place_count v + length v.elements)) same
+    c.loop-i.invariant.looked

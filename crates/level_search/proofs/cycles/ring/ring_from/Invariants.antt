@@ -1,4 +1,5 @@
-use Rattle.std.proofs.Common.{◌≡◌, ℕ, ◌+◌, ◌-◌, ◌<◌, length, slice_index}
+use Rattle.std.proofs.Common.{◌≡◌, ℕ, ◌+◌, ◌*◌, ◌-◌, ◌<◌, ◌≤◌, length, slice_index}
+use Rattle.specification.specs.Responses.{place_count}
 use Rattle.order_graph.specs.Lists.{lists_of}
 use Rattle.list_search.specs.Rings.{IsLeastNext, Reaches}
 use Rattle.list_search.specs.Walks.{Walk}
@@ -14,4 +15,6 @@ invariant-loop-i l = record {
   chosen : (j : ℕ) → 0 < j → j < l.i
       → IsLeastNext (lists_of l.graph) l.element (l.k - j) (slice_index l.ring.items (j - 1))
       (slice_index l.ring.items j);
+  looked : l.looked ≤ l.fn.looked + l.i * (place_count l.graph + length l.graph.elements);
+  forward : l.fn.looked ≤ l.looked;
 }

@@ -1,7 +1,7 @@
 -- The distances from the element over lists that go the other way are those to it.
-use Rattle.std.proofs.Common.{◌≡◌, ℕ, List, length, map, ◌∙◌, ap, subst, sym, arith}
+use Rattle.std.proofs.Common.{◌≡◌, ℕ, ◌+◌, ◌≤◌, List, length, map, ◌∙◌, ap, subst, sym, arith}
 use Rattle.std.specs.Prelude.{reverse}
-use Rattle.specification.specs.Responses.{Responses}
+use Rattle.specification.specs.Responses.{Responses, place_count}
 use Rattle.order_graph.specs.Lists.{lists_of}
 use Rattle.order_graph.specs.Turned.{turned}
 use Rattle.order_graph.proofs.Turned.{lists_turned}
@@ -9,7 +9,7 @@ use Rattle.list_search.specs.Clean.{IsReady}
 use Rattle.list_search.specs.Distances.{AreDistances}
 use Rattle.list_search.proofs.Turning.{distances_turned}
 use Rattle.level_search.specs.Rounds.{FitsDepths}
-use Rattle.level_search.proofs.Rounds.{ready-turned, ready_turned-from}
+use Rattle.level_search.proofs.Rounds.{places-turned, ready-turned, ready_turned-from}
 use Rattle.level_search.proofs.cycles.distances.Distances.find_to.Goals as goal
 
 pub find-requires-clause-ready : goal.find-requires-clause-ready
@@ -36,3 +36,10 @@ returns-clause-fits c = record {
       (ap (λ (w : Responses). length w.elements) c.requires.fits.turned_is) c.find.ensures.fits;
   from = c.requires.fits.from;
 }
+
+pub returns-clause-looked : goal.returns-clause-looked
+returns-clause-looked c =
+    subst (λ n. c.find.new.looked ≤ c.args.looked.now + n)
+    (ap (λ (w : Responses). place_count w + length w.elements) c.requires.fits.turned_is
+    ∙ places-turned c.args.graph.now)
+    c.find.ensures.looked
