@@ -1,21 +1,19 @@
 -- A search that finds a cycle of m elements has made at least 2 * m - 1 looks: two at each of those from which
 -- fewer steps lead to the source than the last level has, and one in that level.
-use Rattle.std.proofs.Common.{◌≡◌, ℕ, zero, suc, ◌+◌, ◌-◌, ◌*◌, ◌<◌, ◌≤◌, Bool, true, false, cond, eqb, Option}
-use Rattle.std.proofs.Common.{Some, None, List, [], ◌∷◌, length, min, refl, sym, ap, subst, arith, inl, inr}
+use Rattle.std.proofs.Common.{◌≡◌, ℕ, zero, suc, ◌+◌, ◌-◌, ◌*◌, ◌<◌, ◌≤◌, true, cond, eqb, Option}
+use Rattle.std.proofs.Common.{Some, None, List, [], ◌∷◌, length, refl, sym, ap, subst, arith, inl, inr}
 use Rattle.std.specs.Prelude.{is_some}
 use Rattle.std.proofs.lemmas.Bool.{cases_Bool, cases_eq, eq-eqb, eqb-true, true≢false}
-use Rattle.bit_tables.specs.Sets.{Has}
 use Rattle.specification.specs.Responses.{Responses, AreProper}
 use Rattle.specification.specs.Search.{IsShortestLength}
 use Rattle.specification.proofs.Members.{In, Once, Once-bounded}
 use Rattle.order_graph.specs.Lists.{lists_of}
-use Rattle.list_search.specs.Graph.{Before}
 use Rattle.list_search.specs.Rings.{Reaches}
-use Rattle.list_search.specs.Walks.{HasCycle, IsSearchAnswer, IsShortest}
+use Rattle.list_search.specs.Walks.{IsSearchAnswer, IsShortest}
 use Rattle.list_search.proofs.Firsts.{reaches_walk, walk_reaches}
 use Rattle.list_search.proofs.Joining.{before-known, shortest_of_all}
 use Rattle.level_search.specs.Balls.{IsBall}
-use Rattle.level_search.specs.LayerSizes.{bit, counted, set_size}
+use Rattle.level_search.specs.LayerSizes.{bit, set_size}
 use Rattle.level_search.specs.Looks.{HasLookedBy, HasRisenBy, IsCountBy, IsCountOf}
 use Rattle.level_search.specs.declared.tabled.sets.Sets.{Sets}
 use Rattle.level_search.proofs.LayerSizes.{bit-has, layer-more}

@@ -25,6 +25,13 @@ use std::alloc::Global;
 use steps::steps_of;
 use witnesses::Steps;
 
+/// The steps of a cycle, and how many looks the search for it took, up to 18446744073709551615.
+#[derive(Drop)]
+pub struct Cycle {
+    pub steps: Steps,
+    pub looked: u64,
+}
+
 /// The least cycle, where k is the length of a shortest: its elements are the first, in dictionary order of
 /// their numbers, of all cycles of k elements, and each step names the least operation that shows it.
 ///
@@ -49,15 +56,8 @@ pub fn least_cycle(alloc: Global, graph: &OrderGraph, k: u32) -> Result<Steps, M
     Ok(cycle.steps)
 }
 
-/// The steps of a cycle, and how many looks the search for it took, up to 18446744073709551615.
-#[derive(Drop)]
-pub struct Cycle {
-    pub steps: Steps,
-    pub looked: u64,
-}
-
-/// The same, with its looks, where searches go in a graph with fewer lists, which shows the same, and this way; and each cycle
-/// leads through one of these sources. The operations of the steps are those of the whole.
+/// The same, with its looks, where searches go in a graph with fewer lists, which shows the same, and this way;
+/// and each cycle leads through one of these sources. The operations of the steps are those of the whole.
 pub fn least_cycle_from(
     alloc: Global,
     graph: &OrderGraph,

@@ -61,7 +61,8 @@ pub struct Judged {
     pub looked: u64,
 }
 
-/// The verdict on a recording, as `judge` has it, the graph that it was found in, and the looks of the searches.
+/// The verdict on a recording, as `judge` has it, the graph that it was found in, and how much the searches
+/// looked at.
 pub fn verdict_and_graph<H: Threads + Sync, G: Gate>(
     rt: &H,
     alloc: Global,
@@ -115,7 +116,7 @@ fn accepted(recording: &Recording, graph: &OrderGraph, order: Order) -> Verdict
 }
 
 /// The verdict on a recording without a fault, where no order follows all responses: this is their least
-/// conflict.
+/// conflict. It has the looks of both searches together.
 fn refused(recording: &Recording, graph: OrderGraph, found: Option<Conflict>) -> Judged
     requires sound { IsSound recording.now }
     requires covered { IsCoveredBy (responses_of recording.now) graph }

@@ -82,10 +82,10 @@ loop-i-preserved c =
           elim more.searched as (λ _. (c.least_of_source-least.result ≡ n)
           ⊎ HasRisenBy (2 * c.args.k - 1) c.args.looked.now c.least_of_source-least.new.looked) [
             | inl same ↦ elim inv.searched as (λ _. (c.least_of_source-least.result ≡ n)
-            ⊎ HasRisenBy (2 * c.args.k - 1) c.args.looked.now c.least_of_source-least.new.looked) [
-              | inl none ↦ inl (same ∙ none)
-              | inr risen ↦ inr (omega arith)
-            ]
+                ⊎ HasRisenBy (2 * c.args.k - 1) c.args.looked.now c.least_of_source-least.new.looked) [
+                  | inl none ↦ inl (same ∙ none)
+                  | inr risen ↦ inr (omega arith)
+                ]
             | inr risen ↦ inr (omega arith)
           ]);
     }

@@ -1,9 +1,8 @@
 -- The distances from the element over lists that go the other way are those to it.
-use Rattle.std.proofs.Common.{◌≡◌, ℕ, ◌+◌, ◌≤◌, List, length, map, ◌∙◌, ap, subst, sym, arith}
+use Rattle.std.proofs.Common.{ℕ, ◌+◌, ◌≤◌, List, length, map, ◌∙◌, ap, subst, sym}
 use Rattle.std.specs.Prelude.{reverse}
 use Rattle.specification.specs.Responses.{Responses, place_count}
 use Rattle.order_graph.specs.Lists.{lists_of}
-use Rattle.order_graph.specs.Turned.{turned}
 use Rattle.order_graph.proofs.Turned.{lists_turned}
 use Rattle.list_search.specs.Clean.{IsReady}
 use Rattle.list_search.specs.Distances.{AreDistances}
