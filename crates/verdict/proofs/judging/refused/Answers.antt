@@ -1,5 +1,5 @@
 -- Where no order follows every response there is a conflict, and it is one of the recording's responses.
-use Rattle.std.proofs.Common.{ℕ, Option, subst}
+use Rattle.std.proofs.Common.{Option, subst}
 use Rattle.std.specs.Prelude.{IfSome}
 use Rattle.level_search.specs.Conflicts.{AreLooksIn, IsLeastConflict, IsWithinSearches}
 use Rattle.level_search.specs.Looks.{AreCycleLooks}
@@ -13,8 +13,8 @@ unreachable-requires c =
     some_conflict c.args.graph c.elements.ensures.proper c.requires.disordered
     (subst (IsLeastConflict c.args.graph) c.in-None.is c.requires.found)
 
-pub returns-in-Some-clause-verdict : goal.returns-in-Some-clause-verdict
-returns-in-Some-clause-verdict c =
+pub returns-clause-verdict : goal.returns-clause-verdict
+returns-clause-verdict c =
     let h = c.args.recording.now in
     let w = c.args.graph in
     refusal-covers h w c.requires.sound
@@ -22,8 +22,8 @@ returns-in-Some-clause-verdict c =
     c.requires.covered c.in-Some.conflict
     (subst (IsLeastConflict w) c.in-Some.is c.requires.found)
 
-pub returns-in-Some-clause-looked : goal.returns-in-Some-clause-looked
-returns-in-Some-clause-looked c =
+pub returns-clause-looked : goal.returns-clause-looked
+returns-clause-looked c =
     let w = c.args.graph in
     record {
       for_number = c.in-Some.conflict.looked;
