@@ -5,9 +5,9 @@ Each log is the text of a recorder that was told which replica is its `only` one
 order; a receipt waits until the operation that it names stands before it. No clocks are needed. Any two merges of the
 same logs have the same report.
 
-Beside a log may stand, in the file with `.lines` behind its name, how many lines were saved, and from where in your code each was
-recorded. A log that has fewer lines is warned of, and its places are left out. Beside TRACE such a file is left too: there the lines
-that are lost count, so that the tools warn of them."""
+A file with `.lines` behind a log's name may say how many lines were saved, and from where in your code each was recorded. A log that has
+fewer lines is warned of, and its places are left out. Such a file is written beside TRACE too; it counts lost lines as well, so that the
+tools warn of them."""
 import os
 import sys
 
@@ -49,8 +49,7 @@ ABSENT = errno.ENOENT, errno.ENAMETOOLONG  # what stands beside a log is not the
 RECEIPT = "recv [0-9]{1,7} [0-9]{1,7}"
 ENTRIES = {"trace 1": re.compile("[0-9]+ (%s|(ins|del|read) .*)" % RECEIPT, re.ASCII),
            "trace 2": re.compile("[0-9]+ (%s|(ins|del|read|view) .*)" % RECEIPT, re.ASCII)}
-STATUSES = ("It ends with status 0, 1 where the logs can't be merged, 2 where one can't be read or the trace can't be written, and 3 where "
-            "memory ran out.")
+STATUSES = ("It ends with status 0, or 1 if the logs can't be merged, 2 if one can't be read or the trace can't be written, 3 if memory ran out.")
 
 
 class Unmerged(ValueError):
@@ -301,7 +300,7 @@ def main():
         sys.stderr = open(os.devnull, "w")
     parser = Parser(prog="merge.py", description=__doc__, epilog=STATUSES, allow_abbrev=False,
                     formatter_class=argparse.RawDescriptionHelpFormatter)
-    parser.add_argument("logs", metavar="LOG", nargs="+", help="a log; a file beside another one, as `LOG*` takes too, is passed over")
+    parser.add_argument("logs", metavar="LOG", nargs="+", help="a log; a .lines file beside one, as `LOG*` takes too, is skipped")
     parser.add_argument("--output", metavar="TRACE", action="append", help="the file to write")
     asked = parser.parse_args()
     if asked.output is not None and len(asked.output) > 1:

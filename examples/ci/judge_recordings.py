@@ -2,9 +2,9 @@
 """judge_recordings.py FOLDER: judges all recordings below a folder in a job of CI, and explains those that are not accepted.
 
 It leaves a folder `judged`: `junit.xml` with all verdicts, and of each failure a page and a small trace, `1.html` and `1.trace` of the
-one that fails in the fewest lines. What it left there before, by the list `.made`, it removes first; a folder of this name that holds
-anything else it leaves alone, and ends. It prints the first explanation whole, and of failures that look alike one line. It prints annotations where GitHub runs
-it, and writes `annotations.json` for GitLab. It ends with the status of domepeeler-judge-many: 0 where all are accepted, 1 where the
+one that fails in the fewest lines. First it removes what it left there before, by the list `.made`; if a folder of this name holds
+anything else, it leaves that alone and ends. It prints the first explanation whole, and of failures that look alike one line. It prints
+annotations where GitHub runs it, and writes `annotations.json` for GitLab. It ends with the status of domepeeler-judge-many: 0 where all are accepted, 1 where the
 editor failed, 2 where the recordings or the setting are at fault. Words behind the folder are options for domepeeler-judge-many; with
 `--weak`, of an editor that promises the weak list specification alone, recordings pass where that holds."""
 from __future__ import print_function
@@ -241,7 +241,7 @@ def main():
     except BrokenPipeError:  # the reader has enough
         os.dup2(os.open(os.devnull, os.O_WRONLY), sys.stdout.fileno())
     except OSError as error:
-        say("cannot write %s: %s" % (error.filename or "what is told", error.strerror))
+        say("cannot write %s: %s" % (error.filename or "the output", error.strerror))
         os.dup2(os.open(os.devnull, os.O_WRONLY), sys.stdout.fileno())
     except Stopped as stopped:
         signal.signal(stopped.args[0], signal.SIG_DFL)

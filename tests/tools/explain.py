@@ -500,8 +500,8 @@ MENDED = [
 NO_TRACES = [
     (b"", "the file is empty"),
     ((ROOT / "examples" / "libinfinity_three_way_cycle.cert").read_bytes(),
-     "the file is a certificate, as `cert` writes it: give the trace that it is of"),
-    (b"cert 1\naccepted\norder :\n", "the file is a certificate, as `cert` writes it: give the trace that it is of"),
+     "the file is a certificate, as `cert` writes it: give its trace instead"),
+    (b"cert 1\naccepted\norder :\n", "the file is a certificate, as `cert` writes it: give its trace instead"),
     (b"\x89PNG\r\n\x1a\n\0\0\0\rIHDR", "the file is binary, and a trace is lines of ASCII"),
     (b"\x7fELF\x02\x01\x01\0\0\0", "the file is binary, and a trace is lines of ASCII"),
     (gzip.compress(b"trace 1\nreplicas 1\n"), "the file is compressed: unpack it first"),

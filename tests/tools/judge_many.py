@@ -1485,7 +1485,7 @@ def script_ended(tally: Tally, place: str, path: str, script: str, folder: str) 
     write(place, {"good/a.trace": "0 ins a 0 : a"})
     for what in "good", ".":
         for redirected, told in (">&-", "judge_recordings: standard output or standard error is closed\n"), (
-                "> /dev/full", "judge_recordings: cannot write what is told: No space left on device\n"):
+                "> /dev/full", "judge_recordings: cannot write the output: No space left on device\n"):
             for unbuffered in "", "1":
                 done = in_ci(place, path, f"{script} {what} {redirected}", {"PYTHONUNBUFFERED": unbuffered})
                 tally.check(f"script of CI: {what} {redirected} {unbuffered}",

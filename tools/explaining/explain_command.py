@@ -25,7 +25,7 @@ from .words import text_of, verdict_of, with_warnings
 NAME = "domepeeler-explain"
 ABOUT = "Says in words what the program's verdict on a trace means: who did what in which line, and where to look."
 MOST_TOLD = 40  # operations of a small trace that are told one by one
-STATUSES = ("It ends with the program's status: 0 accepted, 1 any other verdict, 2 a trace that does not read, 3 out of memory. "
+STATUSES = ("It ends with the program's status: 0 accepted, 1 any other verdict, 2 a trace that can't be read, 3 out of memory. "
             "With --weak it ends with 0 too where strong fails and weak holds.")
 
 
@@ -35,12 +35,12 @@ def words_asked() -> argparse.Namespace:
     parser.add_argument("trace", metavar="TRACE", help="the trace; - is standard input")
     parser.add_argument("--program", metavar="PATH", help="the program that judges")
     parser.add_argument("--html", metavar="FILE", help="write a page with the session drawn and the words beside it")
-    parser.add_argument("--small", metavar="FILE", help="write the small trace that shows the same")
+    parser.add_argument("--small", metavar="FILE", help="write a small trace with the same fault")
     parser.add_argument("--svg", metavar="FILE", help="write the picture of the cycle of a refused recording")
-    parser.add_argument("--language", choices=list(LANGUAGES), help="the language of the recorder, in which to say where to stop a debugger; "
-                        f"by default what stands beside the trace, else {USUAL}")
+    parser.add_argument("--language", choices=list(LANGUAGES), help="the language of the recorder, for the statement that stops a debugger; "
+                        f"by default as TRACE{SIDE} says, else {USUAL}")
     parser.add_argument("--delivered", metavar="FROM-TO", action="append", default=[], type=lines_from, help="lines of the trace that a "
-                        "recorder's `delivered` wrote; by default what stands beside the trace")
+                        f"recorder's `delivered` wrote; by default as TRACE{SIDE} says")
     parser.add_argument("--weak", action="store_true", help="the editor promises the weak list specification alone, as one with a server "
                         "that orders (Jupiter): a trace passes where that holds, though strong doesn't")
     add_version(parser, NAME)
@@ -108,7 +108,7 @@ def write_small(path: str, evidence: Evidence, told: Evidence, program: str, kno
         return
     small = smallest(told, report_of(program))
     if small is None:
-        fail("no smaller trace has the same verdict, nor has the whole one as it is written here")
+        fail("no smaller trace has the same verdict, nor has this tool's copy of the whole one")
     write(path, small.text)
     lines = small.text.splitlines()
     placed = [f"{number} {known.places[line]}" for number, line in enumerate(small.lines, FIRST_ENTRY) if line in known.places]
@@ -118,7 +118,7 @@ def write_small(path: str, evidence: Evidence, told: Evidence, program: str, kno
     if beside_it or os.path.isfile(path + SIDE):  # of a trace that was in this file before
         write(path + SIDE, "".join(f"{line}\n" for line in [len(lines), *beside_it]))
     print(f"\n{shown(path)} {same_as(evidence, told)} in {len(lines)} lines of {len(evidence.recording.lines)}. If you repeat these "
-          "steps, your editor may answer otherwise. Its operations in the whole trace:")
+          "steps, your editor may answer otherwise. Operations, small = whole trace:")
     named = [f"{name} = {operation.name} (line {operation.line})" for name, operation in small.operations]
     print("  " + ", ".join(named[:MOST_TOLD]) + (f", and {len(named) - MOST_TOLD} more" if len(named) > MOST_TOLD else ""))
 

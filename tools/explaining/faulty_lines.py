@@ -96,7 +96,7 @@ def no_trace(trace: bytes) -> str | None:
     if not trace:
         return "the file is empty"
     if re.match(rb"cert [12]\r?\n", trace):
-        return "the file is a certificate, as `cert` writes it: give the trace that it is of"
+        return "the file is a certificate, as `cert` writes it: give its trace instead"
     if PACKED.match(trace):
         return "the file is compressed: unpack it first"
     if not trace.startswith(UTF16) and BINARY.search(trace[:FIRST_BYTES]):

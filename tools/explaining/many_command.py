@@ -27,8 +27,8 @@ from .warnings import is_first
 NAME = "domepeeler-judge-many"
 ABOUT = "Judges all traces below some folders, several at a time, and lists them: first the one that fails in the fewest lines."
 STATUSES = ("It ends with status 0 where all are accepted, 1 where all can be read and some are not accepted, and 2 where one can't "
-            "be read, or is known to be cut, whatever its lines show, or none has an entry, or something else fails. With --weak those pass too "
-            "of which weak holds.")
+            "be read or is known to be cut (whatever its lines show), or none has an entry, or something else fails. With --weak, traces where weak "
+            "holds pass too.")
 MOST_WARNED = 20  # warnings that are printed on standard error
 TRACE = ".trace"  # in any case
 HOLDS = {True: "yes", False: "no", None: "-"}  # None where the report says nothing of it, or there is none
@@ -41,14 +41,14 @@ def words_asked() -> argparse.Namespace:
     parser.register("action", None, Once)
     parser.add_argument("folders", metavar="DIR", nargs="+", help="a folder with *.trace files at any depth, or one trace")
     parser.add_argument("--program", metavar="PATH", help="the program that judges")
-    parser.add_argument("--jobs", metavar="N", help="how many at a time, by default one a processor; with --sshlogin as GNU "
+    parser.add_argument("--jobs", metavar="N", help="how many at once, by default one per processor; with --sshlogin as GNU "
                         "parallel takes it")
     parser.add_argument("--sshlogin", metavar="HOSTS", help="the machines to judge on, as GNU parallel takes them, which copies "
                         "each trace there; the program must have the same path on each of them")
     parser.add_argument("--json", action="store_true", help="a line for each trace, a JSON object, in place of the table")
     parser.add_argument("--failing", action="store_true", help="list only the traces that are not accepted; the counts are of all")
-    parser.add_argument("--unequal", action="store_true", help="let accepted traces fail whose replicas end with different lists, or "
-                        "without some insert or delete")
+    parser.add_argument("--unequal", action="store_true", help="let accepted traces fail if their replicas end with different lists, or "
+                        "lack an insert or delete")
     parser.add_argument("--weak", action="store_true", help="the editor promises the weak list specification alone, as one with a server "
                         "that orders (Jupiter): let traces pass where that holds, though strong doesn't; these are counted by themselves")
     parser.add_argument("--junit", metavar="FILE", help="write the verdicts of all traces in JUnit's XML form, with explanations")

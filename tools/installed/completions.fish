@@ -12,7 +12,7 @@ complete -c domepeeler -n '__fish_seen_subcommand_from verdict live' -l workers 
 complete -c domepeeler -n '__fish_seen_subcommand_from verdict' -l json -d 'print JSON'
 
 complete -c domepeeler-explain -l html -r -d 'write a page with the session drawn'
-complete -c domepeeler-explain -l small -r -d 'write the small trace that shows the same'
+complete -c domepeeler-explain -l small -r -d 'write a small trace with the same fault'
 complete -c domepeeler-explain -l svg -r -d 'write the picture of the cycle'
 complete -c domepeeler-explain -l delivered -x -d 'lines that delivered wrote'
 complete -c domepeeler-explain -l language -x -a 'python javascript rust c emacs-lisp' -d 'of the recorder'

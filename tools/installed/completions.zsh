@@ -5,7 +5,7 @@ _domepeeler() {
     case ${words[1]:t} in
         domepeeler-explain)
             _arguments '--html[write a page with the session drawn]:file:_files' \
-                '--small[write the small trace that shows the same]:file:_files' \
+                '--small[write a small trace with the same fault]:file:_files' \
                 '--svg[write the picture of the cycle]:file:_files' \
                 '*--delivered[lines that delivered wrote]:range:' \
                 '--language[of the recorder]:language:(python javascript rust c emacs-lisp)' \
