@@ -1701,14 +1701,14 @@ static inline void domepeeler_say_named(const struct domepeeler *d, struct domep
             if (!named[line] || !(other = domepeeler_caller_of(d, line))) continue;
             if (other->line == caller->line && !strcmp(other->file, caller->file)) named[line] = 2, count++;
         }
-        domepeeler_say(whole, "%s  ", title);
-        domepeeler_say_place(whole, caller, here);
-        domepeeler_say(whole, ": line%s ", domepeeler_plural(count));
+        domepeeler_say(whole, "%s  line%s ", title, domepeeler_plural(count));
         for (size_t line = first; told < count; line++) {
             if (named[line] != 2) continue;
             domepeeler_say(whole, "%s%zu", domepeeler_joint(told++, count), line);
             named[line] = 0;
         }
+        domepeeler_say(whole, ": ");
+        domepeeler_say_place(whole, caller, here);
         domepeeler_say(whole, "\n");
         title = "";
     }

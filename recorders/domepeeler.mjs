@@ -58,7 +58,7 @@ const LAST = "\nThe list specifications\n" // the title of the last section ther
 const WARNINGS = /^What this verdict may hide\n(?:  .*\n)*/m // a section there
 const NAMED = /\(line (\d+)\)/g // a line in a warning, whose place is put behind it
 // The statement for a debugger.
-const STATEMENT = /^(  stop before line (\d+), .*?) In [A-Z][A-Za-z ]*, put this where your code [a-z, ]+: .*/gm
+const STATEMENT = /^(  stop before line (\d+) of the trace, .*?) In [A-Z][A-Za-z ]*, put this where your code [a-z, ]+: .*/gm
 // A line of a stack, with the path or the URL of a file, and the line in it.
 const FRAME = /^ +at (?:async |.*\()?((?:[a-z]{2,}:\/\/|\/|[A-Za-z]:[\\/]).*:\d+):\d+\)?$/
 const OWN = String(import.meta.url)
@@ -395,7 +395,7 @@ export class Recording {
     const lines = new Map()
     for (const [, places] of found) lines.set(places, [])
     for (const [line, places] of found) lines.get(places).push(line)
-    const told = [...lines].map(([places, at]) => `${places}: line${at.length === 1 ? "" : "s"} ${joined(at)}`)
+    const told = [...lines].map(([places, at]) => `line${at.length === 1 ? "" : "s"} ${joined(at)}: ${places}`)
     return beforeLast(said, section(`In your ${this.#hasLog ? "log" : "code"}`, told))
   }
 

@@ -65,7 +65,7 @@ LINE = re.compile(r"\bline (\d+)(?=[,):]| of the trace,| \(\d+ recv )")  # a lin
 LAST = "\nThe list specifications\n"  # the title of the last section there
 WARNINGS = re.compile(r"^What this verdict may hide\n(?:  .*\n)*", re.MULTILINE)  # a section there
 NAMED = re.compile(r"\(line (\d+)\)")  # a line in a warning, whose place is put behind it
-STATEMENT = re.compile(r"^(  stop before line (\d+), .*?) In [A-Z][A-Za-z ]*, put this where your code [a-z, ]+: .*",
+STATEMENT = re.compile(r"^(  stop before line (\d+) of the trace, .*?) In [A-Z][A-Za-z ]*, put this where your code [a-z, ]+: .*",
                        re.MULTILINE)  # for a debugger
 MOST_WARNED = 5  # deletes, or inserts, that are warned of one by one
 MOST_CHANGES = 3  # that are warned of one by one of those that a replica lacks, or has made nothing of
@@ -421,7 +421,7 @@ class Recording:
         lines: Dict[str, List[str]] = {}
         for line, places in found.items():
             lines.setdefault(places, []).append(str(line))
-        told = [f"{places}: line{'' if len(at) == 1 else 's'} {_joined(at)}" for places, at in lines.items()]
+        told = [f"line{'' if len(at) == 1 else 's'} {_joined(at)}: {places}" for places, at in lines.items()]
         return _before_last(said, _section(f"In your {'log' if self._has_log else 'code'}", told))
 
     def _places(self) -> List[Tuple[int, str]]:

@@ -804,7 +804,7 @@ impl Recording {
             }
             found[of].1.push(line);
         }
-        let told = |(place, lines): (String, Vec<usize>)| format!("{place}: line{} {}", plural(lines.len()), joined(&lines));
+        let told = |(place, lines): (String, Vec<usize>)| format!("line{} {}: {place}", plural(lines.len()), joined(&lines));
         found.into_iter().map(told)
     }
 

@@ -608,19 +608,19 @@ BESIDE = [
 PLACED = "0 ins a 0 : a|1 recv 0 1|1 read : a|0 read : a|1 read :"
 PLACES = [
     ("each line", "7\n3 t.py:31, called from t.py:12\n4 t.py:13\n5 t.py:14\n6 t.py:15\n7 t.py:16\n",
-     "t.py:31, called from t.py:12: line 3|t.py:13: line 4|t.py:14: line 5|t.py:16: line 7"),
-    ("some of one place", "7\n3 r.py:1\n4 t.py:13\n5 r.py:1\n6 r.py:1\n7 r.py:1\n", "r.py:1: lines 3, 5 and 7|t.py:13: line 4"),
-    ("some, in another order, and one twice", "7\n7 b.py:2\n3 a.py:1\n3 c.py:9\n", "a.py:1: line 3|b.py:2: line 7"),
+     "line 3: t.py:31, called from t.py:12|line 4: t.py:13|line 5: t.py:14|line 7: t.py:16"),
+    ("some of one place", "7\n3 r.py:1\n4 t.py:13\n5 r.py:1\n6 r.py:1\n7 r.py:1\n", "lines 3, 5 and 7: r.py:1|line 4: t.py:13"),
+    ("some, in another order, and one twice", "7\n7 b.py:2\n3 a.py:1\n3 c.py:9\n", "line 3: a.py:1|line 7: b.py:2"),
     ("no line that is named", "7\n6 t.py:15\n", ""),
     ("the number alone", "7\n", ""),
     ("no end of the number", "7", ""),
     ("of a shorter trace", "6\n3 a.py:1\n", ""),
     ("of a longer trace", "8\n3 a.py:1\n", ""),
     ("no number", "3 a.py:1\n4 a.py:2\n", ""),
-    ("a last line without an end", "7\n3 a.py:1\n4 a.py:1", "a.py:1: line 3"),
+    ("a last line without an end", "7\n3 a.py:1\n4 a.py:1", "line 3: a.py:1"),
     ("garbage between two", "7\n3 a.py:1\n\n4\n4 \nx a.py:1\n04 a.py:1\n-4 a.py:1\n+4 a.py:1\n4\ta.py:1\n4 \x1b[31ma.py:1\n4 a\0\n\xb2 a.py:1\n4  \u2028\n"
-     + "4 " + "x" * 5000 + "\n" + "9" * 5000 + " a.py:1\n0 a.py:1\n2 a.py:1\n8 a.py:1\n7 b.py:2\n", "a.py:1: line 3|b.py:2: line 7"),
-    ("letters of all kinds", "7\n3 pages/[id] line 4, or (line 5)/\u00e4<b>&amp;\".py:1\n", "pages/[id] line 4, or (line 5)/\u00e4<b>&amp;\".py:1: line 3"),
+     + "4 " + "x" * 5000 + "\n" + "9" * 5000 + " a.py:1\n0 a.py:1\n2 a.py:1\n8 a.py:1\n7 b.py:2\n", "line 3: a.py:1|line 7: b.py:2"),
+    ("letters of all kinds", "7\n3 pages/[id] line 4, or (line 5)/\u00e4<b>&amp;\".py:1\n", "line 3: pages/[id] line 4, or (line 5)/\u00e4<b>&amp;\".py:1"),
 ]
 # By what stands beside a trace of seven lines: the statement for a debugger that stops before its last line, in that language.
 # A session whose end `delivered` wrote, in lines 9 to 11: replica 1 never applied 0.2 and 0.3, and shows nothing wrong before.
@@ -1014,14 +1014,14 @@ def places(tally: Tally, program: str, folder: str) -> None:
         tree = ElementTree.fromstring(page.read_text())
         shown = [[told(node) for node in after.iter("li")] for head, after in zip(tree.iter(), by_next(tree)) if told(head) == "In your code"]
         tally.check(f"places: {name}, on the page", shown == ([lines] if lines else []), shown)
-        numbers = [number for line in lines for number in re.findall(r"\d+", line.rpartition(": line")[2])]
+        numbers = [number for line in lines for number in re.findall(r"\d+", line.partition(": ")[0])]
         links = [node.get("href") for node in tree.iter("a")][-len(numbers):] if lines else []
         tally.check(f"places: {name}, linked", links == [f"#line-{number}" for number in numbers], links)
         tally.check(f"places: {name}, not of standard input", explain(program, ["-"], path.read_bytes()).out.decode() == bare)
     Path(f"{path}.lines").write_text("7\n3 my.log.1:1\n4 my.out:2\n5 my.tsv:2\n7 deep/my.ndjson:3\n")
     smaller = Path(folder, "smaller.trace")
     got = explain(program, ["--small", str(smaller), str(path)]).out.decode()
-    tally.check("places: of a log", paragraph(got, "In your log") == "  my.log.1:1: line 3\n  my.out:2: line 4\n  my.tsv:2: line 5\n  deep/my.ndjson:3: line 7" and
+    tally.check("places: of a log", paragraph(got, "In your log") == "  line 3: my.log.1:1\n  line 4: my.out:2\n  line 5: my.tsv:2\n  line 7: deep/my.ndjson:3" and
                 paragraph(got, "In a debugger") == "  stop before line 7 of the trace, where replica 1 reads the list. The editor then writes deep/my.ndjson:3.", got)
     kept = smaller.read_text().splitlines()[2:], Path(f"{smaller}.lines").read_text()
     tally.check("places: of a small trace", kept == (["0 ins a 0 : a", "1 recv 0 1", "1 read : a", "1 read :"],
@@ -1029,7 +1029,7 @@ def places(tally: Tally, program: str, folder: str) -> None:
     Path(f"{path}.lines").write_text("7\nlog\n3 journal:1\n4 my.py:2\n5 my.py:2\n7 a, b:3\n")
     got = explain(program, ["--small", str(smaller), str(path)]).out.decode()
     kept = Path(f"{smaller}.lines").read_text()
-    tally.check("places: of a log of any name", paragraph(got, "In your log") == "  journal:1: line 3\n  my.py:2: lines 4 and 5\n  a, b:3: line 7" and
+    tally.check("places: of a log of any name", paragraph(got, "In your log") == "  line 3: journal:1\n  lines 4 and 5: my.py:2\n  line 7: a, b:3" and
                 "breakpoint" not in got and kept == "6\nlog\n3 journal:1\n4 my.py:2\n5 my.py:2\n6 a, b:3\n", (got, kept))
     Path(f"{path}.lines").write_text("7\n3 my.log:1\n4 my.py:2\n5 my.log:2\n7 my.log:3\n")
     got = explain(program, [str(path)]).out.decode()
@@ -1046,7 +1046,7 @@ def places(tally: Tally, program: str, folder: str) -> None:
         else:
             side.write_bytes(b"7\n3 \xff.py:1\n")
         got = explain(program, [str(path)])
-        wanted = ["\ufffd.py:1: line 3"] if suffix != "a folder" else []
+        wanted = ["line 3: \ufffd.py:1"] if suffix != "a folder" else []
         _, section, _ = about_code(got.out.decode())
         tally.check(f"places: {suffix}", got.status == 1 and not got.err and [line.strip() for line in section.splitlines()] == wanted, got)
     side.rmdir()
@@ -1054,7 +1054,7 @@ def places(tally: Tally, program: str, folder: str) -> None:
     side.write_text("4\n3 a.py:1\n4 a.py:2\n")
     got = explain(program, [str(path)]).out.decode()
     tally.check("places: of a line that a warning names", got.startswith("accepted, with a warning: ") and
-                "\n\nWhat this verdict may hide\n  line 4, 0.2: " in got and got.endswith("\n\nIn your code\n  a.py:2: line 4\n\nThe list specifications\n  strong and weak hold\n"), got)
+                "\n\nWhat this verdict may hide\n  line 4, 0.2: " in got and got.endswith("\n\nIn your code\n  line 4: a.py:2\n\nThe list specifications\n  strong and weak hold\n"), got)
     path.write_text(text_of(2, "0 ins a 0 : a|1 recv 0 1|0 ins b 1 : a b|1 read : a"))
     side.write_text("6\n5 a.py:1, called from b.py:9\n")
     got = explain(program, [str(path)])
@@ -1954,7 +1954,7 @@ def weak(tally: Tally, program: str, folder: str) -> None:
         if "opposite" in name:
             usual = explain(program, ["-"], text_of(3, entries).encode()).out
             tally.check(f"weak: {name}, where strong is asked for", usual.startswith(b"refused 3: ") and
-                        b"up to line 10 the session is accepted; line 11 makes it `refused 3`" in usual, usual)
+                        b"Up to line 10 the session is accepted; line 11 leads to `refused 3`" in usual, usual)
     for name in "lost_element", "crdt_el_wrong_delete", "libinfinity_replicas_disagree", "crdt_el_replicas_disagree":
         trace = (ROOT / f"examples/{name}.trace").read_bytes()
         got, without = (explain(program, [*goal, "-"], trace) for goal in (["--weak"], []))

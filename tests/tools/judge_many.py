@@ -648,7 +648,7 @@ def places(tally: Tally, program: str, folder: str) -> None:
     Path(folder, "lost.trace.lines").write_text("4\nnote seed 17\n3 t.py:7\n4 t.py:8, called from t.py:9\n")
     judge(program, ["--junit", f"{folder}/junit.xml", folder])
     (failure,) = xml.parse(f"{folder}/junit.xml").getroot().iter("failure")
-    wanted = "\n\nIn your code\n  t.py:7: line 3\n  t.py:8, called from t.py:9: line 4\n\nNoted\n  seed 17\n\nThe list specifications\n  strong and weak fail\n"
+    wanted = "\n\nIn your code\n  line 3: t.py:7\n  line 4: t.py:8, called from t.py:9\n\nNoted\n  seed 17\n\nThe list specifications\n  strong and weak fail\n"
     tally.check("JUnit's file: places, and the seed", failure.text.endswith(wanted), failure.text)
 
 
@@ -953,7 +953,7 @@ def told_of_what_was_judged(tally: Tally, program: str, folder: str) -> None:
             elif what == "nothing":
                 wanted = (wanted or {}) | {str(form): told}
                 tally.check(f"told of what was judged: {form}", got.status == 2 and "line 3 is: 0 reads :" in told[2] and all(
-                    words in told[3] for words in ("  t.py:8: line 4\n", "seed 17", "[b] before [a]: ", "0 reads :")), told)
+                    words in told[3] for words in ("  line 4: t.py:8\n", "seed 17", "[b] before [a]: ", "0 reads :")), told)
             else:
                 tally.check(f"told of what was judged: {what} {form}", told == wanted[str(form)], (told, wanted[str(form)]))
 
@@ -963,7 +963,7 @@ def explained_once(tally: Tally, program: str, folder: str) -> None:
     path = f"{folder}/b.trace"
     write_both(folder, TOLD_OF)
     wanted = run(EXPLAIN, ["--program", program, path])
-    tally.check("explained once: with places and notes", wanted.status == 1 and b"t.py:8: line 4" in wanted.out and b"seed 17" in wanted.out, wanted)
+    tally.check("explained once: with places and notes", wanted.status == 1 and b"line 4: t.py:8" in wanted.out and b"seed 17" in wanted.out, wanted)
     for what, change in (("written over", f"cp '{folder}'/instead/* '{folder}'"), ("replaced", f"mv '{folder}'/instead/* '{folder}'"),
                          ("removed", f"rm '{folder}'/[abc].*")):
         write_both(folder, TOLD_OF)
@@ -1630,7 +1630,7 @@ def weak_junit(tally: Tally, program: str, folder: str) -> None:
                     and "in the end replicas 0, 1 and 2 show different lists" in first.text, first.text)
         first, = cases["opposite.trace"]
         tally.check(f"weak: JUnit's failed case {more}", first.tag == "failure" and first.get("message").startswith("refused 2: ") and
-                    "up to line 13 weak holds; line 14 makes it `refused 2`" in first.text, first.text)
+                    "Up to line 13 weak holds; line 14 leads to `refused 2`" in first.text, first.text)
     Path(folder, "alone.trace.lines").write_text("40\n")
     got = judge(program, ["--weak", "--junit", path, folder])
     suite = xml.parse(path).getroot().find("testsuite")
@@ -1653,7 +1653,7 @@ def weak_in_ci(tally: Tally, program: str, folder: str) -> None:
     tally.check("weak: annotations of GitHub", done.returncode == 1 and [line[:line.index("::", 2) + 13] for line in told] == [
         "::error file=recordings/lost.trace,title=recordings/lost.trace%3A contents::contents 1.",
         "::error file=recordings/opposite.trace,title=recordings/opposite.trace%3A refused::refused 2: "], told)
-    tally.check("weak: explained where weak fails", "up to line 13 weak holds; line 14 makes it `refused 2`" in
+    tally.check("weak: explained where weak fails", "Up to line 13 weak holds; line 14 leads to `refused 2`" in
                 Path(project, "judged/2.html").read_text() and done.stdout.endswith(
                     "2 failed: judged/junit.xml has them all, and judged/1.html is the page of the first\n"), done.stdout)
     done = in_ci(project, path, f"{script} --unequal", github)

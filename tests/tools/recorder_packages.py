@@ -854,7 +854,7 @@ def check_places(tally: Tally, name: str, said: str, file: str, text: str, calle
     lines = text.splitlines()
     calls = [next(number for number, line in enumerate(lines, 1) if f"recording.{call}(" in line) for call in ("insert", "received", "read")]
     end = f", called from {file}:{next(number for number, line in enumerate(lines, 1) if caller in line)}" if caller else ""
-    wanted = "".join(f"  {file}:{call}{end}: line {line}\n" for line, call in enumerate(calls, 3))
+    wanted = "".join(f"  line {line}: {file}:{call}{end}\n" for line, call in enumerate(calls, 3))
     tally.check(f"{name}: the lines of the test", re.search(
         rf"\nIn your code\n{re.escape(wanted)}\nThe list specifications\n  .*\n\nThe trace is saved: ", said), (wanted, said))
 

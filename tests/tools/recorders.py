@@ -1100,7 +1100,7 @@ def check_users(tally: Tally, program: str, folder: Path) -> None:
                     "LC_ALL": "C.UTF-8"}
     for name in LONG_NAMES:
         done = subprocess.run(LONG_NAMES[name][1], cwd=place, capture_output=True, text=True, env=surroundings)
-        tally.check(f"{name}: a place is no name of an id", "In your code\n" in done.stdout and f"\n  {name}:" in done.stdout and
+        tally.check(f"{name}: a place is no name of an id", "In your code\n" in done.stdout and f": {name}:" in done.stdout and
                     "too long" not in done.stdout, done)
     for name, words in ("editor.py", [sys.executable, "tests/editor.py"]), ("editor.mjs", ["node", "tests/editor.mjs"]), (
             "editor.rs", ["./editor"]), ("editor.c", ["./editor_c"]):
@@ -1112,7 +1112,7 @@ def check_users(tally: Tally, program: str, folder: Path) -> None:
             tally.check(f"{name}: places in {saved}", got == wanted, got)
         told = subprocess.run([EXPLAIN, "session.trace"], cwd=place, capture_output=True, text=True, env=surroundings)
         tally.check(f"{name}: explains as the tool explains the file", done.stdout == told.stdout and
-                    "\n\nIn your code\n" + "".join("  {1}: line {0}\n".format(*line.format(place="").split(" ", 1)) for line in USERS[name][1])
+                    "\n\nIn your code\n" + "".join("  line {0}: {1}\n".format(*line.format(place="").split(" ", 1)) for line in USERS[name][1])
                     + "\nThe list specifications\n" in told.stdout, (done, told))
         for left in place.glob("*.trace*"):
             left.unlink()
@@ -1130,7 +1130,7 @@ def check_grouped(tally: Tally, program: str, folder: Path) -> None:
         if name.endswith(".c"):
             subprocess.run([*GCC, "-o", "grouped_c", name], cwd=place, check=True)
         done = subprocess.run(words, cwd=place, capture_output=True, text=True, env=surroundings)
-        told = [f"  {one}: {lines}\n" for one, lines in zip(places, ["lines 3, 4 and 5", "line 6", "line 7"])]
+        told = [f"  {lines}: {one}\n" for one, lines in zip(places, ["lines 3, 4 and 5", "line 6", "line 7"])]
         tally.check(f"{name}: one place for several lines", done.stdout.startswith("contents 1.1: ") and
                     done.stdout.endswith(f"\n\nIn your code\n{''.join(told)}\nNoted\n  seed 17\n{FAIL_BOTH}"), done)
 
@@ -1226,10 +1226,10 @@ def check_log_readers(tally: Tally, program: str, folder: Path) -> None:
         tally.check(f"{name}: the lines of the log", saved == "\n".join(["9", language, "log", *entries, f"9 {name}:{by_code}", ""]), saved)
         told = subprocess.run([EXPLAIN, "session.trace"], cwd=place, capture_output=True, text=True, env=surroundings)
         tally.check(f"{name}: explains as the tool explains the file", said == told.stdout, (done, told))
-        section = "".join(f"  deep/journal:{at}: {lines}\n" for at, lines in (
+        section = "".join(f"  {lines}: deep/journal:{at}\n" for at, lines in (
             (7, "line 3"), (9, "line 4"), (11, "lines 5 and 6"), (12, "line 7"), (13, "line 8")))
         tally.check(f"{name}: names the lines of the log", f"\n\nIn your log\n{section}{LAST}" in said, said)
-        tally.check(f"{name}: no debugger of this program", "\n  stop before line 7, where replica 1 applies 0.1; " in said and
+        tally.check(f"{name}: no debugger of this program", "\n  stop before line 7 of the trace, where replica 1 applies 0.1; " in said and
                     " The editor then writes deep/journal:12.\n" in said and "breakpoint" not in said, said)
 
 
@@ -1917,7 +1917,7 @@ def check_merged_elsewhere(tally: Tally, program: str, folder: Path) -> None:
     got = Path(f"{trace}.lines").read_text()
     tally.check("merge.py: other folders, and a log of many lines", (done.returncode, done.stderr) == (0, "") and got == wanted, (done, got))
     said = subprocess.run([sys.executable, ROOT / "tools/explain", trace, "--program", program], capture_output=True, text=True).stdout
-    tally.check("merge.py: explain names the lines of the code, and no debugger's statement", "  code1.py:3: line 5\n" in said and
+    tally.check("merge.py: explain names the lines of the code, and no debugger's statement", "  line 5: code1.py:3\n" in said and
                 "In a debugger\n" in said and "breakpoint" not in said, said)
     (machines[1] / "a.log").write_text("".join((machines[1] / "a.log").read_text().splitlines(True)[:-1]))
     done = subprocess.run(tool, capture_output=True, text=True)
@@ -2000,7 +2000,7 @@ def check_guide(tally: Tally, program: str, folder: Path) -> None:
     for trace, wanted in judged:
         got = run(program, ["verdict", "-"], trace.encode() + b"\n")
         tally.check(f"guide: {trace}", got.out.decode().split("\n")[1:2] == [wanted.rstrip("\n")], got)
-    stops = re.findall(r"^  stop before line (\d+), where .*: (if recording\.lines\(.*)$", explained.stdout, re.MULTILINE) or [("0", "")]
+    stops = re.findall(r"^  stop before line (\d+) of the trace, where .*: (if recording\.lines\(.*)$", explained.stdout, re.MULTILINE) or [("0", "")]
     surroundings["PYTHONBREAKPOINT"] = "builtins.print"
     reads = [line for number in range(3, 9) for line in [stops[0][1], f"print({number}, recording.read(0, []))"]]
     stopped = ended("stopped.py", "\n".join(["from domepeeler import Recording", "recording = Recording(1)", *reads]))
@@ -2500,10 +2500,10 @@ def check_rust_tests(tally: Tally, program: str, folder: Path) -> None:
     done = subprocess.run(["./editor-0123456789abcdef"], cwd=place, env={**surroundings, "LOST": "1"}, capture_output=True, text=True)
     tally.check("Rust tests: counts", done.returncode != 0 and "test result: FAILED. 3 passed; 6 failed;" in done.stdout, done)
     tally.check("Rust tests: one that stops names the line of its call", re.search(
-        rf"editor\.rs:{line['stops']}:\d+:\ncontents 1\.1: [^\0]*editor\.rs:{line['stops']}: line 5\n", done.stdout) and
+        rf"editor\.rs:{line['stops']}:\d+:\ncontents 1\.1: [^\0]*line 5: editor\.rs:{line['stops']}\n", done.stdout) and
         "it went on" not in done.stdout, done)
     tally.check("Rust tests: a lost list is explained", f"editor.rs:{line['asks']}:" in done.stdout and "contents 1.1: " in done.stdout and
-                f"\nIn your code\n  editor.rs:9: line 3\n  editor.rs:10: line 4\n  editor.rs:{line['reads']}: line 5\n" in done.stdout and
+                f"\nIn your code\n  line 3: editor.rs:9\n  line 4: editor.rs:10\n  line 5: editor.rs:{line['reads']}\n" in done.stdout and
                 f"\nThe trace is saved: failed_traces/{saved.name}\n" in done.stdout, done)
     tally.check("Rust tests: nothing recorded", NOTHING in done.stdout, done)
     warning = ("in the end replicas 0 and 1 show different lists: 0.2 (line 6, editor.rs:{}) never arrived at replica 1 in this recording. "
@@ -2833,7 +2833,7 @@ def check_places_c(tally: Tally, program: str, folder: Path) -> None:
     tally.check("C: a place for each line of which it is known", beside ==
                 "8\nlanguage c\n3 editor.y:7\n6 a??\u00e4 b.c:12\n7 other.y:20\n8 other.y:20\n", beside)
     tally.check("C: explain names these", done.stdout.endswith(
-        f"\n\nIn your code\n  editor.y:7: line 3\n  other.y:20: lines 7 and 8\n{FAIL_BOTH}\n"), done)
+        f"\n\nIn your code\n  line 3: editor.y:7\n  lines 7 and 8: other.y:20\n{FAIL_BOTH}\n"), done)
 
 
 # A program in C++ whose call-back throws, and one that has none.
@@ -2882,7 +2882,7 @@ def check_stop_cpp(tally: Tally, program: str, folder: Path) -> None:
         **os.environ, "DOMEPEELER": program, "DOMEPEELER_EXPLAIN": EXPLAIN, "LC_ALL": "C.UTF-8"})
     line = next(number for number, text in enumerate(STOP_CPP.splitlines(), 1) if "// answers wrong" in text)
     tally.check("C++: a call-back that throws", done.returncode == 0 and done.stdout.startswith("1 5 contents 1.1: ") and
-                f"  stop.cpp:{line}: line 5\n2 5 again\n" in done.stdout, done)
+                f"  line 5: stop.cpp:{line}\n\nThe list specifications\n  strong and weak fail\n2 5 again\n" in done.stdout, done)
     tally.check("C++: no call-back", re.search(r"\n2 5 again\ncontents 1\.1: [^\n]*\nstopped\nin the end replicas 0 and 1 show different lists\n$", done.stdout), done)
 
 

@@ -128,7 +128,7 @@ def page_of(evidence: Evidence, told: Evidence, words: Explanation, trace: str, 
 
 def section_of(section: Section, session: str, letters: dict) -> str:
     """A section of the words: marks for brackets, with the element's letter, and a link to each line that the session shows. In places
-    of code brackets are no marks, and the numbers of lines stand behind the last colon."""
+    of code brackets are no marks, and the numbers of lines stand before the first colon."""
     def marked(found: re.Match) -> str:
         letter = letters.get(found[1], found[1])
         return (f'<sup class="letter">{letter}</sup>' if letter != found[1] else "") + f"<mark>{found[1]}</mark>"
@@ -139,9 +139,9 @@ def section_of(section: Section, session: str, letters: dict) -> str:
     def number_link(found: re.Match) -> str:
         return f'<a href="#line-{found[0]}">{found[0]}</a>' if f'id="line-{found[0]}"' in session else found[0]
 
-    if section.title in (CODE, LOG):  # behind the place stand the lines
-        parts = [line.rpartition(": ") for line in section.lines]
-        lines = [f"{escape(place)}: {NUMBER.sub(number_link, numbers)}" for place, _, numbers in parts]
+    if section.title in (CODE, LOG):  # behind the lines stands their place
+        parts = [line.partition(": ") for line in section.lines]
+        lines = [f"{NUMBER.sub(number_link, numbers)}: {escape(place)}" for numbers, _, place in parts]
     elif section.title == NOTED:
         lines = [escape(line) for line in section.lines]
     else:

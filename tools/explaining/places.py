@@ -91,11 +91,11 @@ def with_places(told: Explanation, known: Beside) -> Explanation:
 
 
 def by_place(found: dict) -> list:
-    """For each place the lines that were recorded there."""
+    """For each place the lines of the trace that were recorded there."""
     lines = {}
     for line, place in found.items():
         lines.setdefault(place, []).append(str(line))
-    return [f"{shown(place)}: line{'' if len(same) == 1 else 's'} {joined(same)}" for place, same in lines.items()]
+    return [f"line{'' if len(same) == 1 else 's'} {joined(same)}: {shown(place)}" for place, same in lines.items()]
 
 
 def without_statement(section: Section, places: dict) -> Section:
