@@ -625,7 +625,7 @@ static inline void domepeeler_free_fresh(struct domepeeler_fresh *fresh) {
 
 /* Whether the file has these bytes, where it can be read. */
 static inline int domepeeler_may_hold(const char *path, const char *bytes, size_t length) {
-    int file = open(path, O_RDONLY | O_CLOEXEC), is_same = 1;
+    int file = open(path, O_RDONLY), is_same = 1;
     char there[4096];
     size_t at = 0;
     while (file >= 0 && is_same) {

@@ -3,6 +3,7 @@ import ast
 import io
 import re
 import tokenize
+from typing import Iterator
 
 PREFIXES = {"", "b", "r", "br"}  # of strings: 2.7 has no `rb`, and 3.0 no `u`
 FUTURE = {"absolute_import", "division", "generators", "nested_scopes", "print_function", "unicode_literals", "with_statement"}
@@ -36,7 +37,7 @@ def newer_parts(text: str) -> list:
     return sorted({what: line for line, what in sorted(found, reverse=True)}.items())
 
 
-def newer_nodes(tree: ast.Module):
+def newer_nodes(tree: ast.Module) -> Iterator[tuple]:
     futures = {name.name for node in ast.walk(tree) if isinstance(node, ast.ImportFrom) and node.module == "__future__" for name in node.names}
     calls = {id(node.value.func) for node in ast.walk(tree) if isinstance(node, ast.Expr) and isinstance(node.value, ast.Call)}
     in_subscripts = {id(part) for node in ast.walk(tree) if isinstance(node, ast.Subscript) for part in ast.walk(node.slice)}
@@ -86,7 +87,7 @@ def newer_nodes(tree: ast.Module):
         yield 1, "future"
 
 
-def parts_of(function: ast.AST):
+def parts_of(function: ast.AST) -> Iterator[ast.AST]:
     """The nodes below a function that are in no other one."""
     for part in ast.iter_child_nodes(function):
         yield part
@@ -94,7 +95,7 @@ def parts_of(function: ast.AST):
             yield from parts_of(part)
 
 
-def newer_tokens(text: str):
+def newer_tokens(text: str) -> Iterator[tuple]:
     before, open_brackets = "", []
     for token in tokenize.generate_tokens(io.StringIO(text).readline):
         line, said = token.start[0], token.string

@@ -17,7 +17,7 @@ EXAMPLE = str(ROOT / "examples" / "lost_element.trace")
 CERTIFICATE = str(ROOT / "examples" / "libinfinity_three_way_cycle.cert")
 REPORT = b"replicas 3 operations 3 inserts 2\ncontents 2.1\nstrong no\nweak no\n"
 RECORDERS = ["domepeeler.py", "domepeeler.mjs", "domepeeler.rs", "domepeeler.h", "domepeeler.el", "merge.py", "engines/list_crdt.py",
-             "properties/with_hypothesis.py"]
+             "engines/record.py", "engines/random_sessions.py", "properties/with_hypothesis.py"]
 CI = ["judge_recordings.py", "github_workflow.yml", "gitlab_jobs.yml", "slurm_array.sh", "kubernetes_job.yml"]
 TOOLS = ["domepeeler", "domepeeler-explain", "domepeeler-judge-many"]
 

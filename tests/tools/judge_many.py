@@ -529,7 +529,7 @@ def interrupted(tally: Tally, folder: str, other: str) -> None:
 
 
 def warnings(tally: Tally, program: str, folder: str) -> None:
-    """What an accepted recording may hide stands on standard error, in a column and in a field; the statuses stay."""
+    """What an accepted recording may hide stands on standard error, behind the errors, in a column and in a field; the statuses stay."""
     quiet = judge(program, [str(ROOT / "examples")])
     tally.check("warnings: none of the examples", quiet.status == 1 and not quiet.err and b"warnings" not in quiet.out, quiet)
     write(folder, {"apart.trace": "0 ins a 0 : a|1 ins b 0 : b", "lost.trace": "0 ins a 0 : a|0 read :", "fine.trace": "0 ins a 0 : a"})
@@ -540,16 +540,19 @@ def warnings(tally: Tally, program: str, folder: str) -> None:
     tally.check("warnings: the columns", [cells(line)[::6] for line in lines[:4]] == [("file", "warnings"), *(
         (f"{folder}/{name}.trace", count) for name, count in (("lost", "1"), ("apart", "3"), ("fine", "0")))], lines)
     tally.check("noted: the column", [cells(line)[7] for line in lines[:4]] == ["noted", "-", "-", "seed 17"], lines)
-    tally.check("unequal: the verdict, and the count", [cells(line)[1] for line in lines[1:4]] == ["contents", "accepted, unequal", "accepted"]
-                and lines[4:] == ["3 traces: 2 accepted, 1 contents", "1 of those accepted is unequal: in the end replicas show different lists, or lack an "
+    tally.check("unequal: the verdict, and the count", [cells(line)[1] for line in lines[1:4]] == ["failed", "accepted, unequal", "accepted"]
+                and lines[4:] == ["3 traces: 2 accepted, 1 failed", "1 of those accepted is unequal: in the end replicas show different lists, or lack an "
                                   "insert or a delete (--unequal lets these fail)"], lines)
-    said = [line.partition(": warning: ") for line in got.err.decode().splitlines()]
-    begun = ("lost", "the trace m"), ("apart", "in the end "), ("apart", "replica 0 n"), ("apart", "replica 1 n")
-    tally.check("warnings: on standard error, lost lines first", [(front, told[:11]) for front, _, told in said] == [
-        (f"domepeeler-judge-many: {folder}/{name}.trace", told) for name, told in begun] and got.status == 1, got)
+    error, *warned = got.err.decode().splitlines()
+    cut = f"the trace may have been cut at a line's end: it has 4 lines, and {folder}/lost.trace.lines says that 9 were saved"
+    said = [line.partition(": warning: ") for line in warned]
+    begun = ("apart", "in the end "), ("apart", "replica 0 n"), ("apart", "replica 1 n")
+    tally.check("warnings: on standard error, lost lines first", error == f"domepeeler-judge-many: {folder}/lost.trace: {cut}; the verdict on the lines "
+                "that are left is `contents 0.2`" and [(front, told[:11]) for front, _, told in said] == [
+                    (f"domepeeler-judge-many: {folder}/{name}.trace", told) for name, told in begun] and got.status == 2, got)
     rows = {Path(row["file"]).stem: row for row in map(json.loads, judge(program, ["--json", folder]).out.decode().splitlines())}
     tally.check("warnings: the field", {name: row.get("warnings") for name, row in rows.items()} == {
-        "fine": None, "lost": [said[0][2]], "apart": [told for _, _, told in said[1:]]}, rows)
+        "fine": None, "lost": [cut], "apart": [told for _, _, told in said]}, rows)
     tally.check("unequal, noted: the fields", {name: (row.get("unequal"), row.get("notes")) for name, row in rows.items()} == {
         "fine": (None, ["seed 17"]), "lost": (None, None), "apart": (True, None)}, rows)
     unequal(tally, program, folder)
