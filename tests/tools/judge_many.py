@@ -718,7 +718,7 @@ def warnings_of_sessions(tally: Tally, program: str, folder: str) -> None:
         found = {kind: [match for match in map(words.match, said) if match] for kind, words in WARNINGS.items()}
         got = {kind: [int(match[1]) if match[1] else "" for match in found[kind]] for kind in ("nothing", "idle", "deleted", "past", "more")}
         got["unheard"] = {(int(match[1]), int(q)) for match in found["unheard"] for q in re.findall(r"\d+", match[2])}
-        got["ends"] = ["different" if match[1].startswith("in") else "lacking" for match in found["ends"]]
+        got["ends"] = ["different" if match[1].startswith("in the end") else "lacking" for match in found["ends"]]
         got["unshown"] = {int(match[1]) for match in found["unshown"]}
         lacked = [(int(r), changes) for match in found["ends"] for changes, r in LACKED.findall(match.string)]
         named = {(r, (int(author), int(n))) for r, changes in lacked for author, n, _ in NAMED.findall(changes)}
