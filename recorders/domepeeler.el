@@ -633,7 +633,7 @@ COUNTS are the clock of the update, which carries AUTHOR's changes from FIRST."
            do (signal 'domepeeler-not-causal
                       (list (format "not causal: %d.%d was applied at replica %d before %d.%d, which replica %d had seen; %s%s"
                                     author n replica other lacking author
-                                    (format "%d.%d must arrive first or in the same update, unless only the call for it is missing"
+                                    (format "%d.%d must arrive first or in the same update: perhaps it was lost, or only the call for it is missing"
                                             other lacking)
                                     (if (/= other author) ""
                                       "; if the update carried more than one change, say how many (`changes`)"))))))

@@ -1045,7 +1045,7 @@ static inline unsigned domepeeler_check_causal(struct domepeeler *d, int replica
         if (clock[other] > seen) seen = clock[other];
         if (lacking < seen && (other != author || of->changes[lacking] < first))
             return domepeeler_refuse(d, 0, "not causal: %d.%u was applied at replica %d before %d.%u, which replica %d had seen; "
-                                           "%d.%u must arrive first or in the same update, unless only the call for it is missing%s",
+                                           "%d.%u must arrive first or in the same update: perhaps it was lost, or only the call for it is missing%s",
                                      author, n, replica, other,
                                      of->changes[lacking], author, other, of->changes[lacking],
                                      other == author ? "; if the update carried more than one change, say how many (`changes`)" : "");

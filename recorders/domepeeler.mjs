@@ -634,8 +634,8 @@ export class Recording {
         const first = lacking[other]
         if (first === undefined || first > Math.max(other === author ? n - 1 : past, seen ? seen[other] : 0)) return
         throw new NotCausal(`not causal: ${author}.${n} was applied at replica ${replica} before ${other}.${first}, ` +
-          `which replica ${author} had seen; ${other}.${first} must arrive first or in the same update, ` +
-          "unless only the call for it is missing" +
+          `which replica ${author} had seen; ${other}.${first} must arrive first or in the same update: ` +
+          "perhaps it was lost, or only the call for it is missing" +
           (seen && other === author ? MORE_CHANGES : ""))
       })
     }

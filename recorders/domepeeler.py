@@ -624,8 +624,8 @@ class Recording:
                 last = max(n - 1 if other == author else past[other], seen[other] if seen else 0)
                 if first and first <= last:
                     raise NotCausal(f"not causal: {author}.{n} was applied at replica {replica} before {other}.{first}, "
-                                    f"which replica {author} had seen; {other}.{first} must arrive first or in the same update, "
-                                    "unless only the call for it is missing" + (MORE_CHANGES if seen and other == author else ""))
+                                    f"which replica {author} had seen; {other}.{first} must arrive first or in the same update: "
+                                    "perhaps it was lost, or only the call for it is missing" + (MORE_CHANGES if seen and other == author else ""))
             ends[author] = n
         self._room(replica, len(ends))
         for author, n in ends.items():

@@ -145,8 +145,8 @@ impl Display for Refused {
             }
             Refused::NotCausal { replica, change: (author, n), lacking: (other, lacking) } => {
                 write!(f, "not causal: {author}.{n} was applied at replica {replica} before {other}.{lacking}, ")?;
-                write!(f, "which replica {author} had seen; {other}.{lacking} must arrive first or in the same update, ")?;
-                write!(f, "unless only the call for it is missing")?;
+                write!(f, "which replica {author} had seen; {other}.{lacking} must arrive first or in the same update: ")?;
+                write!(f, "perhaps it was lost, or only the call for it is missing")?;
                 let more = if other == author { MORE_CHANGES } else { "" };
                 f.write_str(more)
             }

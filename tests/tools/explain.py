@@ -88,7 +88,9 @@ WORDS = [
      "[b] before [a]: line 7, 0.2: replica 0 read the list, answered [b] [a]|"
      "a arrived at replica 1 in line 4, b at replica 0 in line 6|"
      "Look at where a replica places an incoming insert: 1.1 (line 5) inserted b when its replica had a, so their order was set, yet two "
-     "responses differ. Often the number that orders inserts does not grow when changes arrive, or the neighbour is not found." + stop(6, "replica 0 applies 1.1", 4)),
+     "responses differ. Often the number that orders inserts does not grow when changes arrive, or the neighbour is not found.|"
+     "If the list is sorted by position identifiers, look at how that of b is made: it must lie behind that of a. And at how they are compared: "
+     "as text, 10 comes before 9." + stop(6, "replica 0 applies 1.1", 4)),
     ("three-way cycle", 3, THREE_WAY,
      "refused 3: three responses can't be right together. Any two of them can.|"
      "[x] before [b]: line 7 of the trace, 2.1: replica 2 inserted b at position 1, answered [x] [b]|"
@@ -109,11 +111,13 @@ WORDS = [
      "d: inserted by 0.3 (line 9)|c: inserted by 1.1 (line 5)|"
      "d was put behind b. When it arrived at replica 1 in line 10, b was already deleted there by 1.2 (line 8)|"
      "c arrived at replica 0 in line 6, d at replica 1 in line 10||Where to look|"
-     "Look at inserts beside deleted elements, if your replicas throw deleted elements away: the lines above name an insert that arrived where its "
+     "Look at inserts beside deleted elements, if inserts find their place by a neighbour and replicas throw deleted elements away: the lines above name an insert that arrived where its "
      "neighbour had been deleted. Without that neighbour nothing says where the insert belongs.|"
      "Look at where a replica places an incoming insert: 0.3 (line 9) inserted d when its replica had c, so their order was set, yet two "
      "responses differ. Often the number that orders inserts does not grow when changes arrive, or the neighbour is not found. If the editor "
-     "sends positions, the position of d was perhaps not adjusted for the delete of b by 1.2 (line 8), which replica 1 had and the author of d had not." + stop(10, "replica 1 applies 0.3", 6)),
+     "sends positions, the position of d was perhaps not adjusted for the delete of b by 1.2 (line 8), which replica 1 had and the author of d had not.|"
+     "If the list is sorted by position identifiers, look at how that of d is made: it must lie between those of b and c. And at how they are compared: "
+     "as text, 10 comes before 9." + stop(10, "replica 1 applies 0.3", 6)),
     ("an insert between two that are deleted by others", 3, "0 ins a 0 : a|0 ins b 1 : a b|1 recv 0 2|2 recv 0 2|2 ins c 1 : a c b|1 del a : b|"
      "0 del b : a|1 recv 0 3|1 read :|1 ins d 0 : d|1 recv 2 1|1 read : c d|2 recv 1 3|2 read : d c",
      "[d] before [c]: line 16 of the trace, 2.2: replica 2 read the list, answered [d] [c]|"
@@ -146,7 +150,7 @@ WORDS = [
      "x: inserted by 0.1 (line 3), deleted by 0.2 (line 8)|at 0.3 (line 11), x was deleted already, by 0.2 (line 8)|"
      "x arrived at replica 1 in line 4, x at replica 2 in line 5, a at replica 0 in line 9, b at replica 0 in line 10||"
      "Where to look|"
-     "Of the whole trace: Look at inserts beside deleted elements, if your replicas throw deleted elements away: the lines above name an insert that arrived "
+     "Of the whole trace: Look at inserts beside deleted elements, if inserts find their place by a neighbour and replicas throw deleted elements away: the lines above name an insert that arrived "
      "where its neighbour had been deleted. Without that neighbour nothing says where the insert belongs.|"
      "Of the whole trace: Look at the order of concurrent inserts: a and b were inserted without knowing of each other, and were shown in two "
      "different orders. Use a rule that gives the same order everywhere (such as the replicas' numbers), and not the order of "
@@ -270,12 +274,14 @@ WORDS = [
      "Where to look|"
      "Look at the numbers that order inserts at one place, if the editor has such (a clock, ids): c stands behind b, which replica 1 had "
      "already. The number that c has must be greater than that of b; perhaps it is not. Usual causes: the clock does not advance when changes arrive; ids "
-     'are compared as text, so "10" comes before "9".|If the editor has no such numbers: look at how the position that a user sees is mapped to a place '
+     'are compared as text, so "10" comes before "9".|If the list is sorted by position identifiers, look at how that of c is made: it must lie before '
+     'that of b. And at how they are compared: as text, 10 comes before 9.|If the editor has no such numbers: look at how the position that a user sees is mapped to a place '
      "in the editor's own list; and at whether the recorder writes the position that was asked for." + stop(6, "replica 1 inserts c")),
     ("a position before the one that was asked for, beside a deleted element", 1, "0 ins a 0 : a|0 ins b 1 : a b|0 del a : b|0 ins c 1 : c b",
      "asked for: position 1, where [b] stands|found at: position 0||Where to look|"
      "Look at how the position that a user sees is mapped to a place in the editor's own list, where deleted elements may still stand; and "
-     "at whether the recorder writes the position that was asked for." + stop(6, "replica 0 inserts c")),
+     "at whether the recorder writes the position that was asked for.|If the list is sorted by position identifiers, look at how that of c is made: it "
+     "must lie behind that of b. And at how they are compared: as text, 10 comes before 9." + stop(6, "replica 0 inserts c")),
     ("a second delete of one element takes its neighbour", 2, "0 ins a 0 : a|0 ins b 1 : a b|1 recv 0 2|1 read : a b|0 del a : b|1 del a : b|"
      "1 recv 0 3|1 read :",
      "contents 1.3: this response lacks one element that replica 1 had by then.|answered: (nothing)|"
@@ -295,7 +301,7 @@ WORDS = [
      "[c] inserted by 0.3 (line 7), arrived at replica 1 in line 9 (1 recv 0 3)|"
      "[c] was put behind a and before b. When it arrived at replica 1 in line 9, a was already deleted there by 1.2 (line 8)|[c] no operation deletes it||"
      "Where to look|"
-     "Look at inserts beside deleted elements: when c arrived, its neighbour was already deleted there, as told above. An editor that throws deleted elements "
+     "Look at inserts beside deleted elements, if inserts find their place by a neighbour: when c arrived, its neighbour was already deleted there, as told above. An editor that throws deleted elements "
      "away too early finds no place for it, and loses it or holds it back for ever." + stop(9, "replica 1 applies 0.3")),
     ("an element lost beside two that are there", 2, "0 ins a 0 : a|0 ins b 1 : a b|0 ins c 1 : a c b|1 recv 0 3|1 read : a b",
      "[c] was put behind a and before b, which were not deleted there when c arrived (line 6)"),
@@ -1804,7 +1810,7 @@ def many_deletes(tally: Tally, program: str, folder: str) -> None:
             ("one is lost", f"1 ins a 0 : a|1 ins b 1 : a b{deletes.replace(':', ': b')}{''.join(receipts[:2])}|0 read : a b{''.join(receipts[2:])}|0 read :",
              "contents 0.2: this response lacks one element that replica 0 had by then.", 12),
             ("one is shown again", f"1 ins a 0 : a{deletes}{receipts[0]}|0 read : a{''.join(receipts[1:-1])}|0 read : a",
-             "contents 0.2: this response has one element that should not be there.", 7)):
+             "contents 0.2: this response has one element that should not be there.", 8)):
         trace.write_text(text_of(2, entries))
         got, seconds, _ = used([EXPLAIN, "--program", program, "--html", f"{folder}/page.html", "--small", f"{folder}/small", str(trace)])
         tally.check(f"many deletes: {name}", got.status == 1 and got.out.decode().startswith(f"{said}\n") and f"in {lines} lines of".encode() in got.out

@@ -180,7 +180,7 @@ NOTES = [
 # Receipts by vector clocks, which count the inserts and deletes of each replica. Behind the author stands how many changes are carried.
 CLOCKED = ["py", "mjs", "rs", "c", "el"]
 UNCAUSAL = ("uncausal not causal: {0} was applied at replica {1} before {2}, which replica {3} had seen; "
-            "{2} must arrive first or in the same update, unless only the call for it is missing")
+            "{2} must arrive first or in the same update: perhaps it was lost, or only the call for it is missing")
 MORE_CHANGES = "; if the update carried more than one change, say how many (`changes`)"
 CLOCKS = [
     ("a right session", "new 3 -> ok\nclock 0 -> ok 0 0 0\nread 2 -> ok 1\ninsert 2 a 0 a -> ok 2\nclock 2 -> ok 0 0 1\n"
@@ -3060,7 +3060,7 @@ REFUSED_C = [
                                         "received_clock 1 0 2 2 0 0", "read 1"], "accepted", None),
     ("what is not causal, and never comes", ["new 3", "insert 0 a 0 a", "insert 0 b 1 a b", "received_clock 1 0 1 2 0 0", "delivered a b / a b / a b"],
      "accepted", "a call was refused, and what it says never came: not causal: 0.2 was applied at replica 1 before 0.1, which replica 0 had seen; 0.1 must "
-     "arrive first or in the same update, unless only the call for it is missing; if the update carried more than one change, say how many (`changes`)"),
+     "arrive first or in the same update: perhaps it was lost, or only the call for it is missing; if the update carried more than one change, say how many (`changes`)"),
     ("what is not causal, and comes by a receipt of another", ["new 3", "insert 0 a 0 a", "insert 0 b 1 a b", "received_clock 1 0 1 2 0 0", "received 1 0 2",
                                                                "delivered a b / a b / a b"], "accepted", None),
 ]

@@ -46,16 +46,19 @@ CAUSAL = ("There are two ways: apply an operation only after everything that its
 OVERTAKEN = "Look at the order in which operations arrive: {name} was overtaken, as told above. " + CAUSAL
 LOST_OR_OVERTAKEN = ("Look first at whether {name} was lost on its way to replica {replica}: no receipt there names it. If it was overtaken, look "
                      "at the order in which operations arrive. ") + CAUSAL
-LOST_NEIGHBOUR = ("Look at inserts beside deleted elements: when {element} arrived, its neighbour was already deleted there, as told above. An editor "
-                  "that throws deleted elements away too early finds no place for it, and loses it or holds it back for ever.")
+LOST_NEIGHBOUR = ("Look at inserts beside deleted elements, if inserts find their place by a neighbour: when {element} arrived, its neighbour was "
+                  "already deleted there, as told above. An editor that throws deleted elements away too early finds no place for it, and loses it or "
+                  "holds it back for ever.")
 NUMBERS_OF_INSERTS = " Often the number that orders inserts does not grow when changes arrive, or the neighbour is not found."
+IDENTIFIERS = ("If the list is sorted by position identifiers, look at how that of {element} is made: it must lie {between}. And at how they are compared: "
+               "as text, 10 comes before 9.")
 MAPPING = ("Look at how the position that a user sees is mapped to a place in the editor's own list{deleted}; and at whether the "
            "recorder writes the position that was asked for.")
 NUMBERS = ("Look at the numbers that order inserts at one place, if the editor has such (a clock, ids): {element} stands behind "
            "{passed}, which replica {replica} had already. The number that {element} has must be greater than {theirs}; perhaps it is not. Usual causes: "
            'the clock does not advance when changes arrive; ids are compared as text, so "10" comes before "9".')
-BESIDE_DELETED = ("Look at inserts beside deleted elements, if your replicas throw deleted elements away: the lines above name {which}. Without "
-                  "that neighbour nothing says where the insert belongs.")
+BESIDE_DELETED = ("Look at inserts beside deleted elements, if inserts find their place by a neighbour and replicas throw deleted elements away: the "
+                  "lines above name {which}. Without that neighbour nothing says where the insert belongs.")
 SEVERAL_DELETED = ("Look at positions beside deleted elements: any {fewer} of {named} fit together, but perhaps an insert lost its place "
                    "because its neighbour was deleted elsewhere. The lines above say which elements each response no longer has.")
 SEVERAL_APART = ("Look at how a replica orders elements when it has only some of them: any {fewer} of {named} fit together. What "
@@ -103,8 +106,10 @@ def of_contents(evidence: Evidence) -> list:
     if evidence.undelivered:
         return [undelivered(evidence)]
     found = [*wrong_delete(evidence, evidence.operations[0]), *second_delete(evidence), *overtaken(evidence), *lost_neighbour(evidence)]
-    found = found or unlike_receipts(evidence)
-    found = [*lost(evidence), *found] if is_loss_likelier(evidence, found) else [*found, *lost(evidence)]
+    more = unlike_receipts(evidence) if not found or all(cause.name == "lost neighbour" for cause in found) else []
+    is_loss_first = is_loss_likelier(evidence, found or more)
+    found += more
+    found = [*lost(evidence), *found] if is_loss_first else [*found, *lost(evidence)]
     found += brought(evidence, not found)
     these = "If none of these is the cause" if found[1:] else "If that is not the cause"
     return [*found, Cause("arrival", otherwise(these, ARRIVAL) if found else ARRIVAL)]
@@ -236,12 +241,23 @@ def of_position(evidence: Evidence) -> list:
     asked = place_asked(operation, response)
     has_delete = any(operation.has_seen(delete) for deletes in evidence.recording.deletes.values() for delete in deletes)
     mapped = MAPPING.format(deleted=", where deleted elements may still stand" if has_delete else "")
+    others = [other for other in response if other != name]
+    sorted_by = identifiers(name, others[max(operation.at - 1, 0):operation.at][-1:], others[operation.at:operation.at + 1])
     if asked < 0 or name not in response or response.index(name) < asked:
-        return [Cause("mapping", mapped)]
+        return [Cause("mapping", mapped), *sorted_by]
     passed = response[asked:response.index(name)]
     theirs = "theirs" if passed[1:] else f"that of {passed[0]}"
     return [Cause("numbers", NUMBERS.format(element=name, passed=listed(passed, MOST_TOLD), replica=operation.replica, theirs=theirs)),
-            Cause("mapping", otherwise("If the editor has no such numbers", mapped))]
+            *sorted_by, Cause("mapping", otherwise("If the editor has no such numbers", mapped))]
+
+
+def identifiers(element: str, before: list, behind: list) -> list:
+    """Where an editor has to make the position identifier of an element that its author put between these two, of which one may be missing."""
+    if not before and not behind:
+        return []
+    between = (f"between those of {before[0]} and {behind[0]}" if before and behind else
+               f"behind that of {before[0]}" if before else f"before that of {behind[0]}")
+    return [Cause("identifiers", IDENTIFIERS.format(element=element, between=between))]
 
 
 def of_refusal(evidence: Evidence, weak: bool) -> list:
@@ -263,8 +279,11 @@ def of_refusal(evidence: Evidence, weak: bool) -> list:
     told = SEEN.format(later=at(later), new=later.element, old=old.element, numbers="" if weak and moved else NUMBERS_OF_INSERTS,
                        moved=MOVED_INSERT.format(**moved) if moved else "")
     told += put_meanwhile(evidence, later) or put_meanwhile(evidence, old)
-    causes = [*beside_deleted(evidence), Cause("seen", told)]
-    return [*lost(evidence), *(causes[::-1] if weak and moved else causes)]
+    if weak and moved:
+        return [*lost(evidence), Cause("seen", told), *beside_deleted(evidence)]
+    place = later.response.index(later.element)
+    sorted_by = identifiers(later.element, later.response[max(place - 1, 0):place], later.response[place + 1:place + 2])
+    return [*lost(evidence), *beside_deleted(evidence), Cause("seen", told), *sorted_by]
 
 
 def beside_deleted(evidence: Evidence) -> list:
