@@ -150,14 +150,14 @@ WORDS = [
      "x: inserted by 0.1 (line 3), deleted by 0.2 (line 8)|at 0.3 (line 11), x was deleted already, by 0.2 (line 8)|"
      "x arrived at replica 1 in line 4, x at replica 2 in line 5, a at replica 0 in line 9, b at replica 0 in line 10||"
      "Where to look|"
+     "Look at positions beside deleted elements: any two of 2.1, 0.3 and 1.1 fit together, but perhaps an insert lost its place "
+     "because its neighbour was deleted elsewhere. The lines above say which elements each response no longer has.|"
      "Of the whole trace: Look at inserts beside deleted elements, if inserts find their place by a neighbour and replicas throw deleted elements away: the lines above name an insert that arrived "
      "where its neighbour had been deleted. Without that neighbour nothing says where the insert belongs.|"
      "Of the whole trace: Look at the order of concurrent inserts: a and b were inserted without knowing of each other, and were shown in two "
      "different orders. Use a rule that gives the same order everywhere (such as the replicas' numbers), and not the order of "
      "arrival. If the editor sends positions, the position of b was perhaps not adjusted for the delete of x by 0.2 (line 8), which replica 1 "
      "had and the author of b had not; or the position of the delete was not adjusted for another insert.|"
-     "Look at positions beside deleted elements: any two of 2.1, 0.3 and 1.1 fit together, but perhaps an insert lost its place "
-     "because its neighbour was deleted elsewhere. The lines above say which elements each response no longer has.|"
      "An editor whose server orders all changes, as Jupiter's does, promises only the weak list specification, and up to line 11 that "
      "holds. To ask for that only, use --weak."
      + stop(10, "replica 0 applies 2.1", 9, 5, 4) + "||What the whole trace shows: each element before the next, in a circle|"
@@ -273,8 +273,8 @@ WORDS = [
      "position 1.1: c does not stand where it was asked for.|asked for: position 0, where [b] stands|found at: position 1||"
      "Where to look|"
      "Look at the numbers that order inserts at one place, if the editor has such (a clock, ids): c stands behind b, which replica 1 had "
-     "already. The number that c has must be greater than that of b; perhaps it is not. Usual causes: the clock does not advance when changes arrive; ids "
-     'are compared as text, so "10" comes before "9".|If the list is sorted by position identifiers, look at how that of c is made: it must lie before '
+     "already. The number that c has must be greater than that of b; perhaps it is not. Usual causes: the clock does not advance when changes arrive; the "
+     'replica is compared before the number; ids are compared as text, so 10 comes before 9.|If the list is sorted by position identifiers, look at how that of c is made: it must lie before '
      'that of b. And at how they are compared: as text, 10 comes before 9.|If the editor has no such numbers: look at how the position that a user sees is mapped to a place '
      "in the editor's own list; and at whether the recorder writes the position that was asked for." + stop(6, "replica 1 inserts c")),
     ("a position before the one that was asked for, beside a deleted element", 1, "0 ins a 0 : a|0 ins b 1 : a b|0 del a : b|0 ins c 1 : c b",
@@ -382,7 +382,9 @@ WORDS = [
      "line 4 of the trace, 0.2: replica 0 inserted b at position 1|line 5, 1.1: replica 1 inserted b at position 0||"
      "Where to look|"
      "Look at the recorder first: each inserted element needs a name of its own, for ever. Equal letters are different elements, each element "
-     "of a paste is a new one, and so is one that undo brings back, if the editor makes it anew.||The list specifications|"
+     "of a paste is a new one, and so is one that undo brings back, if the editor makes it anew.|"
+     "If that name is the editor's own id, the editor made it twice: look at what makes ids. Usual causes: a clock that goes back when a change arrives, or "
+     "at a new start; two replicas with one number.||The list specifications|"
      "neither the strong nor the weak one was judged: both know an element by its name"),
 ]
 
@@ -871,7 +873,7 @@ def beginning(tally: Tally, program: str, text: str, report: dict, said: str) ->
     and refuses them with it. Where it reports other steps of these than of the whole, they are told. Answers the text up to that line, and
     the report on it."""
     told = paragraph(said, "When it went wrong")
-    front, shown = said.partition("\nWhat the whole trace shows, ")[::2]
+    front, shown = said.partition("\nWhat the whole trace shows: ")[::2]
     lines = text.splitlines(keepends=True)
     last = int(re.match(r"  line (\d+) of the trace, ", told)[1]) if told else len(lines)
     before, behind = (json.loads(run(program, ["verdict", "--json", "-"], "".join(lines[:count]).encode()).out) for count in (last - 1, last))
@@ -1711,7 +1713,7 @@ def pages(tally: Tally, program: str, folder: str) -> None:
         kinds = circles(tree)
         tally.check(f"page of {name}: its circles are red", {row for row, found in kinds.items() if "verdict" in found} == first[name], kinds)
         later = {node.get("id") for node in by_class(tree, "li", "matters")}
-        named = {f"line-{line}" for line in re.findall(r"\bline (\d+), ", wanted.partition("hat the whole trace")[2] or wanted.partition("program names of")[2])}
+        named = {f"line-{line}" for line in re.findall(r"\bline (\d+), ", wanted.partition("hat the whole trace")[2] or wanted.partition("program names in")[2])}
         tally.check(f"page of {name}: what the whole trace names is marked", named and named <= later | red, (named, later))
         ways = {row for row, found in kinds.items() if found == {"matters"}}
         tally.check(f"page of {name}: its other circles", ways == (later - red) & set(kinds) and named <= ways | red, (ways, later))

@@ -11,6 +11,7 @@ from .programs import GUIDE
 from .recordings import Operation, place_asked
 from .telling import at, counted, joined, listed
 
+ALONE = "weak alone"  # the name of the last cause: that weak holds
 MOST_TOLD = 3  # deletes, or elements, that are told one by one
 MOST_MET = 6  # changes for which a position was perhaps not adjusted
 
@@ -56,7 +57,7 @@ MAPPING = ("Look at how the position that a user sees is mapped to a place in th
            "recorder writes the position that was asked for.")
 NUMBERS = ("Look at the numbers that order inserts at one place, if the editor has such (a clock, ids): {element} stands behind "
            "{passed}, which replica {replica} had already. The number that {element} has must be greater than {theirs}; perhaps it is not. Usual causes: "
-           'the clock does not advance when changes arrive; ids are compared as text, so "10" comes before "9".')
+           "the clock does not advance when changes arrive; the replica is compared before the number; ids are compared as text, so 10 comes before 9.")
 BESIDE_DELETED = ("Look at inserts beside deleted elements, if inserts find their place by a neighbour and replicas throw deleted elements away: the "
                   "lines above name {which}. Without that neighbour nothing says where the insert belongs.")
 SEVERAL_DELETED = ("Look at positions beside deleted elements: any {fewer} of {named} fit together, but perhaps an insert lost its place "
@@ -83,6 +84,8 @@ MOVED_BACK = {True: "; or the position of the delete was not adjusted for anothe
               False: "; or the positions of the deletes were not adjusted for other inserts"}
 DOUBLED = ("Look at the recorder first: each inserted element needs a name of its own, for ever. Equal letters are different elements, "
            "each element of a paste is a new one, and so is one that undo brings back, if the editor makes it anew.")
+SAME_ID = ("If that name is the editor's own id, the editor made it twice: look at what makes ids. Usual causes: a clock that goes back when a change arrives, "
+           "or at a new start; two replicas with one number.")
 
 
 class Cause(NamedTuple):
@@ -92,7 +95,7 @@ class Cause(NamedTuple):
 
 def causes_of(evidence: Evidence, weak: bool = False) -> list:
     """The causes; with `weak` of an editor that promises the weak list specification alone, as those do that send positions."""
-    find = {"contents": of_contents, "position": of_position, "refused": lambda told: of_refusal(told, weak), "doubled": lambda _: [Cause("doubled", DOUBLED)],
+    find = {"contents": of_contents, "position": of_position, "refused": lambda told: of_refusal(told, weak), "doubled": lambda _: [Cause("doubled", DOUBLED), Cause("same id", SAME_ID)],
             "accepted": lambda _: []}
     return find[evidence.report["verdict"]](evidence)
 
@@ -263,7 +266,7 @@ def identifiers(element: str, before: list, behind: list) -> list:
 def of_refusal(evidence: Evidence, weak: bool) -> list:
     """Concurrent inserts first; then inserts beside deleted elements, then two elements of which one's author had seen the other."""
     if evidence.report["k"] > 2:
-        return [*lost(evidence), of_several(evidence), Cause("weak alone", WEAK_ALONE_HOLDS.format(line=evidence.last_line))]
+        return [*lost(evidence), of_several(evidence), Cause(ALONE, WEAK_ALONE_HOLDS.format(line=evidence.last_line))]
     first, then = (evidence.recording.inserts[name][0] for name in evidence.elements)
     if not first.has_seen(then) and not then.has_seen(first):
         moved = moved_over(evidence)

@@ -7,7 +7,7 @@ import re
 from typing import NamedTuple
 
 from . import debuggers
-from .causes import Cause, causes_of
+from .causes import ALONE, Cause, causes_of
 from .evidence import MOST_ARRIVED, Evidence
 from .programs import WEAK_ALONE, is_weak_alone
 from .recordings import Operation, Receipt, Recording, place_asked
@@ -37,7 +37,9 @@ def explanation(evidence: Evidence, told: Evidence, language: str = debuggers.US
     tell = {"accepted": accepted, "refused": refused, "doubled": doubled, "contents": contents, "position": position}
     headline, sections = tell[told.report["verdict"]](told)
     causes = causes_of(told, weak)
-    where = [Section("Where to look", [cause.told for cause in of_whole(evidence, told) + causes])] if causes else []
+    alone = [cause for cause in causes if cause.name == ALONE]
+    in_order = [*(cause for cause in causes if cause.name != ALONE), *of_whole(evidence, told), *alone]
+    where = [Section("Where to look", [cause.told for cause in in_order])] if causes else []
     whole = whole_trace(evidence, told)
     others = " too, and names other responses" if verdict_of(evidence.report) == verdict_of(told.report) else ""
     headline += f" The verdict on the whole trace is {verdict_of(evidence.report)}{others}." if whole else ""
