@@ -238,7 +238,7 @@ export class Recording {
   }
 
   /** Keeps a word of yours for the whole recording, as "seed 17": one line of 1 to 200 printable characters. `save` writes it beside the
-   * trace, and `explain` ends with it. A recording takes 20. */
+   * trace, and `explain` tells it. A recording takes 20. */
   note(text) {
     if (typeof text !== "string" || !text || NO_NOTE.test(text) || [...text.slice(0, 2 * MOST_LETTERS + 1)].length > MOST_LETTERS) {
       throw new Refused(`a note is one line of 1 to ${MOST_LETTERS} printable characters`)

@@ -292,7 +292,7 @@ class Recording:
     @_alone
     def note(self, text: str) -> None:
         """Keeps a word of yours for the whole recording, as "seed 17": one line of 1 to 200 printable characters. `save` writes it beside
-        the trace, and `explain` ends with it. A recording takes 20."""
+        the trace, and `explain` tells it. A recording takes 20."""
         if not isinstance(text, str) or not 1 <= len(text) <= MOST_LETTERS or NO_NOTE.search(text):
             raise Refused(f"a note is one line of 1 to {MOST_LETTERS} printable characters")
         if len(self._notes) == MOST_NOTES:

@@ -123,13 +123,14 @@ def alike(number, row):
 
 
 def print_explanations(rows, told):
-    """The first whole, and of those that look alike the first line of the first."""
+    """The first that has a verdict whole, and of those that look alike the first line of the first."""
     groups = {}
     for number, (row, words) in enumerate(zip(rows, told)):
         groups.setdefault(alike(number, row), []).append((row, words))
-    for place, same in enumerate(groups.values()):
+    judged = [same for same in groups.values() if same[0][0]["verdict"] not in ("unread", "failed")]
+    for same in groups.values():
         (row, words), more = same[0], len(same) - 1
-        first = words if place == 0 else words.split("\n")[0]
+        first = words if same is (judged or list(groups.values()))[0] else words.split("\n")[0]
         others = "\n  and %d more that look%s alike: %s%s" % (
             more, "s" * (more == 1), same[1][0]["shown"], " and others" * (more > 1)) if more else ""
         print("%s: %s%s\n" % (row["shown"], first, others), flush=True)

@@ -75,7 +75,7 @@ export class Recording {
   delivered(lists: Lists): void
 
   /** Keeps a word of yours for the whole recording, as "seed 17": one line of 1 to 200 printable characters. `save` writes it beside the
-   * trace, and `explain` ends with it. A recording takes 20. */
+   * trace, and `explain` tells it. A recording takes 20. */
   note(text: string): void
 
   /** How many lines the text has so far: 2 before the first entry. */

@@ -3,10 +3,28 @@
 where it is missing (as root). Two minutes at most, most of it for building Rust crates.
 
 Of each file the first test must pass, and the second, of an engine with a fault, must fail with the smallest recording
-found and the program's report on it. Prints that and ends with status 1 where it is not so."""
+found and the program's report on it. Prints that and ends with status 1 where it is not so, and with 2 where it could not be tried."""
+from __future__ import print_function
+
 import os
-import subprocess
 import sys
+
+# All of this file is in words that Python 2.7 can read, so that an older Python says which one is needed, and not that it can't read this.
+
+
+def end(*fault):
+    """Ends with 2 at what nobody has thought of, also while this is loaded: 1 is said of the tests."""
+    sys.__excepthook__(*fault)
+    os._exit(2)
+
+
+if __name__ == "__main__":
+    sys.excepthook = end
+    if sys.version_info < (3, 9):
+        sys.stderr.write("run.py: this needs Python 3.9 or later, and is run by %d.%d\n" % sys.version_info[:2])
+        sys.exit(2)
+
+import subprocess
 import tempfile
 from pathlib import Path
 
@@ -44,20 +62,20 @@ TESTS = {
 }
 
 
-def main() -> None:
+def main():
     if len(sys.argv) != 2 or not os.access(sys.argv[1], os.X_OK):
-        sys.exit("usage: run.py PROGRAM")
+        sys.stderr.write("usage: run.py PROGRAM\n")
+        sys.exit(2)
     failed = 0
     for name, (packages, command, wanted) in TESTS.items():
         install(packages)
         with tempfile.TemporaryDirectory() as folder:
-            surroundings = {**os.environ, "DOMEPEELER": os.path.abspath(sys.argv[1]), "HERE": str(HERE.resolve()),
-                            "OUT": folder, "NODE_PATH": "/usr/share/nodejs", "HYPOTHESIS_STORAGE_DIRECTORY": folder,
-                            "PYTHONDONTWRITEBYTECODE": "1"}
+            surroundings = dict(os.environ, DOMEPEELER=os.path.abspath(sys.argv[1]), HERE=str(HERE.resolve()), OUT=folder,
+                                NODE_PATH="/usr/share/nodejs", HYPOTHESIS_STORAGE_DIRECTORY=folder, PYTHONDONTWRITEBYTECODE="1")
             said = subprocess.run(["sh", "-ec", command], capture_output=True, env=surroundings).stdout.decode()
         missing = [words for words in wanted if words not in said]
         print(said)
-        print(f"{name}: " + (f"MISSING {missing}" if missing else "one passes, one fails, as they are meant to"))
+        print("%s: %s" % (name, "MISSING %s" % missing if missing else "one passes, one fails, as they are meant to"))
         failed += bool(missing)
     sys.exit(1 if failed else 0)
 

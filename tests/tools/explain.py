@@ -199,10 +199,10 @@ WORDS = [
      "before it: replica 2 did nothing, and received 1.1 (line 6)|Missing|"
      "[a] inserted by 0.1 (line 3), arrived at replica 1 in line 4 (1 recv 0 1), and from there arrived at replica 2 in line 6 "
      "(2 recv 1 1)|[a] 0.1 has no receipt of its own at replica 2, and counts as arrived with 1.1 (line 5), whose author had it. If "
-     "each operation travels by itself, 0.1 had not arrived, which is not causal|[a] no operation deletes it||Where to look|"
+     "each operation travels by itself, 0.1 had not arrived before: that order is not causal|[a] no operation deletes it||Where to look|"
      "Look first at whether 0.1 was lost on its way to replica 2: no receipt there names it. If it was overtaken, look at the order in which "
-     "operations arrive. There are two ways: apply an operation only after everything that its author had seen, or send that with it; if the "
-     f"editor itself holds it back, write its receipt only when it is applied. {GUIDE} has both."),
+     "operations arrive. Apply an operation only after everything that its author had seen, or send that with it. If the editor itself holds "
+     f"operations back, write the receipt of each only when it is applied. {GUIDE} has both ways."),
     ("an element lost that arrived after what had seen it", 3,
      "0 ins a 0 : a|1 recv 0 1|1 ins b 1 : a b|2 recv 1 1|2 recv 0 1|2 read : b",
      "line 8 of the trace, 2.1: replica 2 read the list|[a] 0.1's own receipt comes only in line 7 (2 recv 0 1). 1.1, whose author "
@@ -310,8 +310,8 @@ WORDS = [
      "contents 1.1: this response lacks one element that replica 1 had by then.|Missing|"
      "[b] inserted by 0.2 (line 4), arrived at replica 1 in line 7 (1 recv 0 3)|"
      "[b] 0.2's own receipt comes only in line 9 (1 recv 0 2). 0.3 overtook it in line 7: that order is not causal|[b] no operation deletes it|"
-     "Look at the order in which operations arrive: 0.2 was overtaken, as told above. There are two ways: apply an operation only after "
-     f"everything that its author had seen, or send that with it; if the editor itself holds it back, write its receipt only when it is applied. {GUIDE} has both."
+     "Look at the order in which operations arrive: 0.2 was overtaken, as told above. Apply an operation only after everything that its author had seen, or send that with it. If the editor itself holds "
+     f"operations back, write the receipt of each only when it is applied. {GUIDE} has both ways."
      + stop(7, "replica 1 applies 0.3")),
     ("a change without a receipt, as each other of its author has one", 2, "0 ins a 0 : a|0 ins b 1 : a b|0 ins c 2 : a b c|0 ins d 3 : a b c d|1 recv 0 1|"
      "1 read : a|1 recv 0 3|1 read : a c|1 recv 0 4|1 read : a c d",
@@ -1427,9 +1427,14 @@ def planted_bugs(tally: Tally, program: str, folder: str) -> None:
 
 
 def lost_messages(tally: Tally, program: str, folder: str, bug: str, seeds: int, least: int, share: float) -> list:
-    """Random sessions in which changes are lost on their way: where one fails, the words say that one of these was lost, and on its way where.
-    Answers the words."""
-    said, unnamed = [], []
+    """Random sessions in which changes are lost on their way: where one fails, the words say that one of these was lost, and on its way where; and so
+    do most of the words on small traces. Answers the words."""
+    def is_named(told: str, lost: list) -> bool:
+        look = told.partition("\nWhere to look\n")[2].partition("\n\n")[0].splitlines()
+        return any(re.search(rf"\b{re.escape(name)}\b.*\breplica {replica}\b", line) and "lost" in line and "does it lose" not in line
+                   for name, replica in lost for line in look)
+
+    said, unnamed, small_named = [], [], 0
     for seed in range(seeds):
         recording = planted.session(bug, seed)
         recording.save(f"{folder}/lost.trace")
@@ -1439,17 +1444,21 @@ def lost_messages(tally: Tally, program: str, folder: str, bug: str, seeds: int,
         report = report_of(program)(recording.text().encode())
         if not lost or report["weak" if bug in planted.BEHIND_SERVER else "strong"]:
             continue
-        words, _ = explained(Evidence(Recording(recording.text(), ranges), report), report_of(program), weak=True)
+        words, told = explained(Evidence(Recording(recording.text(), ranges), report), report_of(program), weak=True)
         said.append(text_of_words(words))
-        look = said[-1].partition("\nWhere to look\n")[2].partition("\n\n")[0].splitlines()
-        is_named = any(re.search(rf"\b{re.escape(name)}\b.*\breplica {replica}\b", line) and "lost" in line and "does it lose" not in line
-                       for name, replica in lost for line in look)
-        unnamed += [] if is_named else [(seed, lost, said[-1])]
+        unnamed += [] if is_named(said[-1], lost) else [(seed, lost, said[-1])]
+        small = smallest(told, report_of(program))
+        delivered = tuple((at, at) for at, line in enumerate(small.lines, 3) if any(first <= line <= last for first, last in ranges))
+        report = report_of(program)(small.text.encode())
+        again, _ = explained(Evidence(Recording(small.text, delivered), report), report_of(program), weak=True)
+        names = {operation.name: name for name, operation in small.operations}
+        small_named += is_named(text_of_words(again), [(names[name], replica) for name, replica in lost if name in names])
     named = len(said) - len(unnamed)
     tally.check(f"lost messages: {bug}: named by what is elsewhere", bug == "lost" or any(
         ", though at another replica it has one. " in words for words in said))
     tally.check(f"lost messages: {bug}", len(said) >= least and named >= share * len(said), (len(said), named, unnamed[:3]))
-    print(f"{bug}: {len(said)} of {seeds} sessions fail, the words name a lost change and its replica in {named}")
+    tally.check(f"lost messages: {bug}: named by most small traces too", small_named >= 0.8 * len(said), (len(said), small_named))
+    print(f"{bug}: {len(said)} of {seeds} sessions fail, the words name a lost change and its replica in {named}, those of small traces in {small_named}")
     return said
 
 

@@ -599,7 +599,8 @@ def known_as_cut(tally: Tally, program: str, folder: str) -> None:
     path = f"{folder}/junit.xml"
     got = judge(program, ["--junit", path, folder])
     lines, rows = got.err.decode().splitlines(), [cells(line)[:4] for line in got.out.decode().splitlines()]
-    told, left = (f"{folder}/{name}.trace: the trace may have been cut at a line's end: it has 4 lines, and {folder}/{name}.trace.lines says that 9 were saved{shows}" for name, shows in (("zz", ""), ("bad", "; the verdict on the lines that are left is `contents 0.2`")))
+    told, left = (f"{folder}/{name}.trace: the trace may have been cut at a line's end: it has 4 lines, and {folder}/{name}.trace.lines says that 9 "
+                  f"were saved{shows}" for name, shows in (("zz", ""), ("bad", "; the verdict on the lines that are left is `contents 0.2`")))
     tally.check("cut: status 2, failed, and said first", got.status == 2 and lines[:2] == [f"domepeeler-judge-many: {one}" for one in (left, told)]
                 and "more warning" in lines[-1] and got.out.decode().splitlines()[-2] == "10 traces: 8 accepted, 2 failed", got)
     tally.check("cut: the table has no verdict of them", rows[1:3] == [(f"{folder}/{name}.trace", "failed", "-", "-") for name in ("bad", "zz")], rows)
@@ -627,6 +628,17 @@ def known_as_cut(tally: Tally, program: str, folder: str) -> None:
         row = json.loads(judge(program, ["--json", f"{folder}/{name}.trace"]).out)
         tally.check(f"cut: its object, {name}", row["verdict"] == "failed" and row["error"] == error.partition(": ")[2] and "fails_at" not in row
                     and row["report"]["verdict"] == verdict, row)
+    Path(folder, "mixed").mkdir()
+    for name, lines in ("aa", "0 inz a 0 : a\n"), ("half", "0 ins a 0 : a\n0 rea"), ("zz", "0 ins a 0 : a\n"):
+        Path(folder, "mixed", f"{name}.trace").write_text(f"trace 1\nreplicas 1\n{lines}")
+        Path(folder, "mixed", f"{name}.trace.lines").write_text("3\n" if name == "aa" else "9\n")
+    got = judge(program, [f"{folder}/mixed"])
+    first = f"domepeeler-judge-many: {folder}/mixed"
+    said = [line for line in got.err.decode().splitlines() if not line.startswith("  ")]
+    more = [f"it has 3 lines, and {folder}/mixed/{name}.trace.lines says that 9 were saved" for name in ("half", "zz")]
+    tally.check("cut: said before what does not read, and of one within a line too", got.status == 2 and sorted(said[:2]) == [
+        f"{first}/half.trace: finder: line 4: cut; {more[0]}", f"{first}/zz.trace: the trace may have been cut at a line's end: {more[1]}"]
+                and said[2:] == [f"{first}/aa.trace: finder: line 3: shape"], got)
 
 
 def grouped(tally: Tally, program: str, folder: str) -> None:
@@ -1043,10 +1055,9 @@ def overwriting(tally: Tally, program: str, folder: str) -> None:
             tally.check(f"overwriting: {words[1]} {output}", (got.returncode, got.stdout, got.stderr) == (2, "", told), got)
     os.mkfifo(f"{folder}/piped.lines")
     got = subprocess.run([explain, "--program", program, "--small", f"{folder}/piped", path], capture_output=True, text=True, timeout=60)
-    tally.check("overwriting: a pipe beside the small trace", got.returncode == 2 and got.stderr.endswith(
-        f"cannot write {folder}/piped.lines: it is no regular file\n"), got)
+    tally.check("overwriting: a pipe beside the small trace", (got.returncode, got.stdout, got.stderr) == (
+        2, "", f"domepeeler-explain: cannot write {folder}/piped.lines: it is no regular file\n") and not os.path.exists(f"{folder}/piped"), got)
     os.unlink(f"{folder}/piped.lines")
-    Path(folder, "piped").unlink(missing_ok=True)
     for option in "--small", "--html", "--svg":
         with open(path, "rb") as given:
             got = subprocess.run([explain, "--program", program, option, path, "-"], stdin=given, capture_output=True, text=True)
@@ -1254,7 +1265,7 @@ def unknown_faults(tally: Tally, program: str, folder: str) -> None:
 
 SCRIPTS = {"tools/judge_many": "domepeeler-judge-many", "tools/explain": "domepeeler-explain", "tools/draw_cycle.py": "draw_cycle.py",
            "recorders/merge.py": "merge.py", "recorders/engines/record.py": "record.py",
-           "examples/ci/judge_recordings.py": "judge_recordings", "tools/package": "package"}
+           "examples/ci/judge_recordings.py": "judge_recordings", "tools/package": "package", "recorders/properties/run.py": "run.py"}
 IMPORTED = ["tools/explaining/*.py", "tools/making_packages.py", "recorders/*.py", "recorders/engines/*.py", "recorders/python/domepeeler/*.py"]
 # Commands that the oldest Python that is named runs as this one does.
 MAIN_WAYS = [
@@ -1472,6 +1483,10 @@ def script_of_ci(tally: Tally, program: str, folder: str) -> None:
     done = in_ci(str(place), path, f"{script} apart --unequal", {"GITHUB_ACTIONS": "true"})
     tally.check("script of CI: unequal, where that fails", done.returncode == 1 and done.stdout.startswith(
         "::error file=apart/a.trace,title=apart/a.trace%3A accepted::accepted, but unequal in the end: in the end replicas 0 and 1 show different lists\n"), done)
+    write(str(place), {"odd/a.trace": "0 inz a 0 : a", "odd/b.trace": "0 ins a 0 : a|0 read :"})
+    done = in_ci(str(place), path, f"{script} odd", {})
+    tally.check("script of CI: the first that has a verdict is explained whole", done.returncode == 2 and done.stdout.count("\nWhere to look\n") == 1 and
+                "\nodd/b.trace: contents 0.2: " in done.stdout, done)
     for entries, left in ("0 ins a 0 : a", ""), ("0 read : a", "; the verdict on the lines that are left is `contents 0.1`"):
         write(str(place), {"cut/a.trace": entries})
         Path(place, "cut", "a.trace.lines").write_text("9\n")

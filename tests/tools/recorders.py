@@ -1793,6 +1793,12 @@ def check_merge_hostile(tally: Tally, folder: Path) -> None:
         done = subprocess.run([sys.executable, ROOT / "recorders" / "merge.py", "0.log", log], cwd=place, capture_output=True, text=True, timeout=60)
         wanted = warned * (not words.startswith("cannot read")) + f"merge.py: {words}\n"
         tally.check(f"merge.py: {log!r}", done.returncode in (1, 2) and done.stderr == wanted and not done.stdout, done)
+    os.mkfifo(place / "out.trace.lines")
+    (place / "one.log").write_text("trace 1\nreplicas 2\n0 read :\n")
+    done = subprocess.run([sys.executable, ROOT / "recorders" / "merge.py", "--output", "out.trace", "one.log"], cwd=place, capture_output=True, text=True,
+                          timeout=60)
+    tally.check("merge.py: a pipe beside the trace", (done.returncode, done.stdout, done.stderr) == (
+        2, "", "merge.py: cannot write out.trace.lines: it is no regular file\n") and not (place / "out.trace").exists(), done)
     (place / "names.log").write_text(f"trace 1\nreplicas 2\n1 read :{' a' * 1_000_000}\n" + "1 read :\n" * 1000)
     started = processor_seconds()
     done = subprocess.run([sys.executable, ROOT / "recorders" / "merge.py", "--output", "names.trace", "names.log"], cwd=place, capture_output=True, text=True)

@@ -42,8 +42,8 @@ PUT_AT_ONCE = (" {others} {were} inserted at the same place as {element}, and ne
                "comes first there.")
 SECOND_DELETE = ("{again} deletes {element}, already deleted at replica {replica} by {first}: look at what the editor does with a delete whose element "
                  "is gone. It may have deleted {missing} instead.{moved}")
-CAUSAL = ("There are two ways: apply an operation only after everything that its author had seen, or send that with it; if the editor itself holds "
-          f"it back, write its receipt only when it is applied. {GUIDE} has both.")
+CAUSAL = ("Apply an operation only after everything that its author had seen, or send that with it. If the editor itself holds operations back, write "
+          f"the receipt of each only when it is applied. {GUIDE} has both ways.")
 OVERTAKEN = "Look at the order in which operations arrive: {name} was overtaken, as told above. " + CAUSAL
 LOST_OR_OVERTAKEN = ("Look first at whether {name} was lost on its way to replica {replica}: no receipt there names it. If it was overtaken, look "
                      "at the order in which operations arrive. ") + CAUSAL
@@ -245,7 +245,8 @@ def of_position(evidence: Evidence) -> list:
     has_delete = any(operation.has_seen(delete) for deletes in evidence.recording.deletes.values() for delete in deletes)
     mapped = MAPPING.format(deleted=", where deleted elements may still stand" if has_delete else "")
     others = [other for other in response if other != name]
-    sorted_by = identifiers(name, others[max(operation.at - 1, 0):operation.at][-1:], others[operation.at:operation.at + 1])
+    at_most = min(operation.at, len(others))
+    sorted_by = identifiers(name, others[max(at_most - 1, 0):at_most], others[at_most:at_most + 1])
     if asked < 0 or name not in response or response.index(name) < asked:
         return [Cause("mapping", mapped), *sorted_by]
     passed = response[asked:response.index(name)]

@@ -89,7 +89,7 @@ class Evidence:
         self.surplus = [name for name in dict.fromkeys(answered) if name not in expected]
         self.missing = [name for name in self.recording.inserts if name in missing]
         if not self.repeated + self.surplus + self.missing:
-            raise Unexplained(f"the response of {operation.name} holds what is visible")
+            raise Unexplained(f"the response of {operation.name} holds just what its replica had by then")
         self._name(operation, self.repeated + self.surplus)
         before, arrived = self.before(operation)
         told = arrived[:MOST_ARRIVED]

@@ -66,6 +66,8 @@ def check_outputs(asked: argparse.Namespace, inputs: list) -> None:
     why = written_over([*filter(None, [asked.html, asked.svg]), *small], inputs)
     if why:
         fail(why)
+    if asked.small and os.path.lexists(asked.small + SIDE) and not os.path.isfile(asked.small + SIDE):
+        fail(f"cannot write {shown(asked.small + SIDE)}: it is no regular file")
 
 
 def read(path: str) -> tuple:
@@ -113,8 +115,6 @@ def write_small(path: str, evidence: Evidence, told: Evidence, program: str, kno
     lines = small.text.splitlines()
     placed = [f"{number} {known.places[line]}" for number, line in enumerate(small.lines, FIRST_ENTRY) if line in known.places]
     beside_it = [*known.marks(small.lines), *placed]
-    if os.path.exists(path + SIDE) and not os.path.isfile(path + SIDE):
-        fail(f"cannot write {shown(path + SIDE)}: it is no regular file")
     if beside_it or os.path.isfile(path + SIDE):  # of a trace that was in this file before
         write(path + SIDE, "".join(f"{line}\n" for line in [len(lines), *beside_it]))
     print(f"\n{shown(path)} {same_as(evidence, told)} in {len(lines)} lines of {len(evidence.recording.lines)}. If you repeat these "

@@ -22,7 +22,7 @@ from .junit import junit_of
 from .programs import WAYS, WEAK_ALONE, NoProgram, check_is_domepeeler, find_program
 from .recordings import FIRST_ENTRY
 from .rows import KINDS, NO_VERDICTS, Request, Row
-from .warnings import is_first
+from .warnings import SAVED, is_first
 
 NAME = "domepeeler-judge-many"
 ABOUT = "Judges all traces below some folders, several at a time, and lists them: first the one that fails in the fewest lines."
@@ -213,8 +213,9 @@ def print_unequal(rows: list, asked: argparse.Namespace) -> None:
 
 
 def print_errors(rows: list) -> None:
-    """Of a trace that does not read also what is wrong with its line, without the list of all that a line may be."""
-    for row in rows:
+    """First of those that are known to be cut; of a trace that does not read also what is wrong with its line, without the list of all that a
+    line may be."""
+    for row in sorted(rows, key=lambda row: SAVED not in row.error):
         if row.error:
             told = [line for line in row.fault or [] if line not in ENTRIES]
             print("\n  ".join([f"{NAME}: {shown(row.file)}: {shown(row.error)}", *told]), file=sys.stderr)

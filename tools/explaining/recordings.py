@@ -65,7 +65,7 @@ class Recording:
         self.receipts = [[] for _ in range(self.replicas)]
         self.entries = []
         self.inserts, self.deletes = defaultdict(list), defaultdict(list)  # operations by element
-        self._counts, self._named, self._shown_by, self._sets, self._lines_named = {}, {}, {}, {}, {}
+        self._counts, self._named, self._shown_by, self._sets, self._lines_named, self._came_to = {}, {}, {}, {}, {}, {}
         clocks = [[0] * self.replicas for _ in range(self.replicas)]
         for number, line in enumerate(self.lines[2:], FIRST_ENTRY):
             self._take(number, line, clocks)
@@ -156,7 +156,7 @@ class Recording:
             few += lacking if len(lacking) * (least + 1) <= len(changes) else []
             elsewhere += [change for change in lacking if self.is_named_elsewhere(change, replica)]
             came += len(changes)
-        found = few + [change for change in elsewhere if change not in few] if len(elsewhere) * 2 <= came else few
+        found = dict.fromkeys(few + elsewhere if len(elsewhere) * 2 <= came else few)
         return sorted(found, key=lambda change: change.line)
 
     def are_named(self, author: int, but: list, replica: int) -> bool:
@@ -192,14 +192,21 @@ class Recording:
 
     def is_named_elsewhere(self, change: Operation, replica: int) -> bool:
         """Whether a change came to other replicas than this one, and to each by a receipt of its own."""
-        others = [other for other in range(self.replicas) if other not in (replica, change.replica) and self.arrival(change, other)]
-        return bool(others) and all(self.own_receipt(change, other) for other in others)
+        others = [is_own for other, is_own in self.came_to(change) if other != replica]
+        return bool(others) and all(others)
 
     def may_travel_alone(self, change: Operation, replica: int) -> bool:
         """Whether a change came to another replica than this one by a receipt of its own, where it came to another one: what travels with the
         next change of its author, in one update, has none anywhere."""
-        others = [other for other in range(self.replicas) if other not in (replica, change.replica) and self.arrival(change, other)]
-        return not others or any(self.own_receipt(change, other) for other in others)
+        others = [is_own for other, is_own in self.came_to(change) if other != replica]
+        return not others or any(others)
+
+    def came_to(self, change: Operation) -> list:
+        """The other replicas to which a change came, each with whether it has a receipt of its own there. It is asked for many times."""
+        if change.key not in self._came_to:
+            self._came_to[change.key] = [(other, self.own_receipt(change, other) is not None) for other in range(self.replicas)
+                                         if other != change.replica and self.arrival(change, other)]
+        return self._came_to[change.key]
 
     def is_applied(self, change: Operation, replica: int) -> bool | None:
         """Whether a change was applied at another replica than its author's, by the responses there; none where they don't show it. An insert is
@@ -238,8 +245,8 @@ class Recording:
     @cached_property
     def has_updates_of_several(self) -> bool:
         """Whether somewhere a change was applied that has no receipt of its own, so that one receipt may stand for several changes."""
-        return any(self.arrival(change, replica) and not self.own_receipt(change, replica) and not self.is_deleted_twice(change)
-                   and self.is_applied(change, replica) for change in self.changes() for replica in range(self.replicas) if replica != change.replica)
+        return any(not is_own and not self.is_deleted_twice(change) and self.is_applied(change, replica)
+                   for change in self.changes() for replica, is_own in self.came_to(change))
 
     def change_at(self, changes: list, receipt: Receipt) -> Operation | None:
         """Of these operations the one that was first made at the receipt's replica, or arrived there, if that was before the receipt."""

@@ -14,7 +14,7 @@ from .places import Beside, beside, placed_warnings, with_places
 from .programs import VERDICTS, NoProgram, is_another, is_of, is_weak_alone, no_report, of_another_trace, report_in, report_of
 from .recordings import FIRST_ENTRY, Recording
 from .telling import MOST_STEPS, listed
-from .warnings import Warnings, warnings_of
+from .warnings import CUT, Warnings, cut, warnings_of
 from .words import text_of, verdict_of, with_warnings
 
 NO_VERDICTS = ["unread", "failed"]
@@ -93,6 +93,9 @@ def row_of(request: Request, file: str, trace: bytes, side: Side, answer: Answer
     lines, report = trace.count(b"\n"), report_in(status, printed)
     if report is None and is_another(status, error):
         return failed(file, seconds, status, no_report(request.program, status, error), lines)
+    if report is None and status == 2 and error.endswith(": cut") and (lost := cut(trace, side)) and lost[0].startswith(CUT):
+        told = f"{error}; {lost[0].partition(': ')[2]}"
+        return Row(file, "unread", None, lines, seconds, status, None, told, fault=fault_of(error, trace, file))
     if report is None:
         return Row(file, "unread" if status == 2 else "failed", None, lines, seconds, status, None, error, fault=fault_of(error, trace, file))
     if report["verdict"] not in VERDICTS:

@@ -17,6 +17,7 @@ from .evidence import Evidence
 from .recordings import Operation, Receipt, Recording, place_asked
 
 MOST_MET = 3  # deletes that an insert met
+MOST_BESIDE_LOST = 4  # changes beside a lost one
 
 
 class Small(NamedTuple):
@@ -146,10 +147,12 @@ def candidates(evidence: Evidence) -> list:
     gone += evidence.met[1][:MOST_MET]
     elements.update(delete.element for delete in gone)
     overtakings = [found for _, found in evidence.overtakings]
-    late = tuple({found.own for found in overtakings if found.own})
     misplaced = evidence.operations[0] if evidence.report["verdict"] == "position" else None
     overtaking = [receipt.seen for found in overtakings for receipt in filter(None, found)]
-    told = [*evidence.operations, *overtaking]
+    lost, later = beside_lost(evidence)
+    elements.update(operation.element for operation in lost if operation.element)
+    late = tuple({*later, *(found.own for found in overtakings if found.own)})
+    told = [*evidence.operations, *overtaking, *lost]
     if evidence.report["verdict"] == "contents":  # the response before shows what was there; what has not arrived there may be what should have
         told += evidence.before(evidence.operations[0])[0]
         told += [change for element in evidence.elements for change in evidence.changes(element, evidence.operations[0])]
@@ -157,9 +160,23 @@ def candidates(evidence: Evidence) -> list:
         told = with_changes(recording, elements, told)
     every = [operation for stream in recording.streams for operation in stream if operation.line <= evidence.last_line]
     names = elements.union(recording.inserts, recording.deletes, *(operation.response for operation in evidence.operations))
-    return [Projection(recording, elements, fewer(told, evidence.operations + gone + overtaking), misplaced, late),
+    return [Projection(recording, elements, fewer(told, evidence.operations + gone + overtaking + lost), misplaced, late),
             Projection(recording, elements, told, misplaced, late),
             Projection(recording, names, every, misplaced)]
+
+
+def beside_lost(evidence: Evidence) -> tuple:
+    """The change that is told as lost, if one is; others of its author that came to that replica by receipts of their own; and what was answered
+    next where it came by one: without these nothing would speak for it. And those receipts that came later."""
+    recording, last, found, late = evidence.recording, evidence.last_line, [], []
+    for change, replica in evidence.unreceived[:1] if evidence.report["verdict"] in ("refused", "contents") else []:
+        receipts = [receipt for receipt in recording.receipts[replica] if receipt.seen.replica == change.replica and receipt.seen.element
+                    and receipt.seen.line <= last and not recording.is_delivered(receipt.line)][-MOST_BESIDE_LOST:]
+        found, late = [change, *(receipt.seen for receipt in receipts)], [receipt for receipt in receipts if receipt.line > last]
+        came = [recording.arrival(change, replica), *(recording.own_receipt(change, other) for other, is_own in recording.came_to(change) if is_own)]
+        behind = [operation for receipt in filter(None, came) for operation in recording.streams[receipt.replica][receipt.before:receipt.before + 1]]
+        found += [operation for operation in behind if operation.line <= last]
+    return list(dict.fromkeys(found)), late
 
 
 def fewer(kept: list, named: list) -> list:

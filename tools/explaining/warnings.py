@@ -14,6 +14,7 @@ MOST_TOLD = 5  # deletes, or inserts, that are told one by one
 MOST_CHANGES = 3  # that are told one by one of those that a replica lacks, or has made nothing of
 MOST_BYTES = 64  # of the first line beside a trace that are looked at
 CUT = "the trace may have been cut at a line's end"
+SAVED = " were saved"  # ends what is said of one that is known to be cut
 UNKNOWN = "so nothing says whether the trace is whole"
 NOTHING = "nothing was recorded"
 
@@ -211,7 +212,7 @@ def cut(trace: bytes, side: Side) -> list:
     if not said.isdigit():
         return [f"{shown(side.name)} holds no line count, {UNKNOWN}"]
     if int(said) > lines:
-        return [f"{CUT}: it has {lines} lines, and {shown(side.name)} says that {int(said)} were saved"]
+        return [f"{CUT}: it has {lines} lines, and {shown(side.name)} says that {int(said)}{SAVED}"]
     if int(said) < lines:
         return [f"the trace has {lines} lines, and {shown(side.name)} says that {int(said)} were saved: is that file of another trace?"]
     return []

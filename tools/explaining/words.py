@@ -339,7 +339,7 @@ def overtaken(evidence: Evidence, change: Operation, operation: Operation) -> li
         return [f"{change.name} has no receipt of its own at replica {replica}, though all other changes of replica {change.replica} have one. It was "
                 f"lost, or {brought.seen.name} overtook it in line {brought.line}"]
     return [f"{change.name} has no receipt of its own at replica {replica}, and counts as arrived with {at(brought.seen)}, whose author had it. If each "
-            f"operation travels by itself, {change.name} had not arrived, which is not causal"]
+            f"operation travels by itself, {change.name} had not arrived before: that order is not causal"]
 
 
 def neighbours(evidence: Evidence, insert: Operation) -> list:
