@@ -328,7 +328,7 @@ def main():
     trace = text_of(lines).encode()
     if os.path.exists(asked.output) and not os.path.isfile(asked.output):  # a pipe or a device has no file beside it
         write(asked.output, trace)
-    elif os.path.lexists(asked.output + SIDE) and not os.path.isfile(asked.output + SIDE):
+    elif os.path.exists(asked.output + SIDE) and not os.path.isfile(asked.output + SIDE) and not os.path.isdir(asked.output + SIDE):
         fail(2, "cannot write %s%s: it is no regular file" % (asked.output, SIDE))
     else:
         write_both(asked.output, trace, beside_trace(logs, lines))

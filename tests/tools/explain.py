@@ -89,8 +89,8 @@ WORDS = [
      "a arrived at replica 1 in line 4, b at replica 0 in line 6|"
      "Look at where a replica places an incoming insert: 1.1 (line 5) inserted b when its replica had a, so their order was set, yet two "
      "responses differ. Often the number that orders inserts does not grow when changes arrive, or the neighbour is not found.|"
-     "If the list is sorted by position identifiers, look at how that of b is made: it must lie behind that of a. And at how they are compared: "
-     "as text, 10 comes before 9." + stop(6, "replica 0 applies 1.1", 4)),
+     "If the list is sorted by position identifiers, print those of a and b at line 5: if they are not in this order, look at how that of b "
+     "is made there; else at how they are compared (numbers not as text)." + stop(6, "replica 0 applies 1.1", 4)),
     ("three-way cycle", 3, THREE_WAY,
      "refused 3: three responses can't be right together. Any two of them can.|"
      "[x] before [b]: line 7 of the trace, 2.1: replica 2 inserted b at position 1, answered [x] [b]|"
@@ -116,8 +116,8 @@ WORDS = [
      "Look at where a replica places an incoming insert: 0.3 (line 9) inserted d when its replica had c, so their order was set, yet two "
      "responses differ. Often the number that orders inserts does not grow when changes arrive, or the neighbour is not found. If the editor "
      "sends positions, the position of d was perhaps not adjusted for the delete of b by 1.2 (line 8), which replica 1 had and the author of d had not.|"
-     "If the list is sorted by position identifiers, look at how that of d is made: it must lie between those of b and c. And at how they are compared: "
-     "as text, 10 comes before 9." + stop(10, "replica 1 applies 0.3", 6)),
+     "If the list is sorted by position identifiers, print those of b, d and c at line 9: if they are not in this order, look at how that "
+     "of d is made there; else at how they are compared (numbers not as text)." + stop(10, "replica 1 applies 0.3", 6)),
     ("an insert between two that are deleted by others", 3, "0 ins a 0 : a|0 ins b 1 : a b|1 recv 0 2|2 recv 0 2|2 ins c 1 : a c b|1 del a : b|"
      "0 del b : a|1 recv 0 3|1 read :|1 ins d 0 : d|1 recv 2 1|1 read : c d|2 recv 1 3|2 read : d c",
      "[d] before [c]: line 16 of the trace, 2.2: replica 2 read the list, answered [d] [c]|"
@@ -274,14 +274,14 @@ WORDS = [
      "Where to look|"
      "Look at the numbers that order inserts at one place, if the editor has such (a clock, ids): c stands behind b, which replica 1 had "
      "already. The number that c has must be greater than that of b; perhaps it is not. Usual causes: the clock does not advance when changes arrive; the "
-     'replica is compared before the number; ids are compared as text, so 10 comes before 9.|If the list is sorted by position identifiers, look at how that of c is made: it must lie before '
-     'that of b. And at how they are compared: as text, 10 comes before 9.|If the editor has no such numbers: look at how the position that a user sees is mapped to a place '
+     'replica is compared before the number; ids are compared as text, so 10 comes before 9.|If the list is sorted by position identifiers, print those of c and b at line 6: if they are not in this order, look at how that of c '
+     'is made there; else at how they are compared (numbers not as text).|If the editor has no such numbers: look at how the position that a user sees is mapped to a place '
      "in the editor's own list; and at whether the recorder writes the position that was asked for." + stop(6, "replica 1 inserts c")),
     ("a position before the one that was asked for, beside a deleted element", 1, "0 ins a 0 : a|0 ins b 1 : a b|0 del a : b|0 ins c 1 : c b",
      "asked for: position 1, where [b] stands|found at: position 0||Where to look|"
      "Look at how the position that a user sees is mapped to a place in the editor's own list, where deleted elements may still stand; and "
-     "at whether the recorder writes the position that was asked for.|If the list is sorted by position identifiers, look at how that of c is made: it "
-     "must lie behind that of b. And at how they are compared: as text, 10 comes before 9." + stop(6, "replica 0 inserts c")),
+     "at whether the recorder writes the position that was asked for.|If the list is sorted by position identifiers, print those of b and c at line 6: if they are not in this order, look at how that of c "
+     "is made there; else at how they are compared (numbers not as text)." + stop(6, "replica 0 inserts c")),
     ("a second delete of one element takes its neighbour", 2, "0 ins a 0 : a|0 ins b 1 : a b|1 recv 0 2|1 read : a b|0 del a : b|1 del a : b|"
      "1 recv 0 3|1 read :",
      "contents 1.3: this response lacks one element that replica 1 had by then.|answered: (nothing)|"

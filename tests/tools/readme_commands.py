@@ -127,7 +127,7 @@ def check_page(tally: Tally, page: str, least: int) -> None:
 
 def check_names(tally: Tally, program: str, front: str) -> None:
     """README says in one sentence what a user types, and how the program's messages begin."""
-    told = re.findall(r"You type `(.+?)`; the program's messages begin with `(.+?)`\.", front)
+    told = re.findall(r"You type `(.+?)`; the program's messages begin with `(.+?)`, as its formats want\.", front)
     asked, failed = (subprocess.run([program, *words], capture_output=True, text=True) for words in (["--version"], ["verdict", "/nowhere"]))
     tally.check("README.md: the program's name, and its messages", len(told) == 1 and asked.stdout.startswith(f"{told[0][0]} ")
                 and failed.stderr.startswith(f"{told[0][1]} "), (told, asked, failed))

@@ -731,7 +731,7 @@ fn main() {{
 ''',
 }
 USED = ["contents contents\ncontents 0.23: ", f"Ids that were too long for a name\n  long12: {LONG_ID}/12\n\n", "accepted",
-        "no_explainer ended with status 2: not today", "nowhere cannot be run (", "in DOMEPEELER_EXPLAIN",
+        "no_explainer ended with status 2: not today", "nowhere cannot be run (", "set DOMEPEELER_EXPLAIN to the tool's path",
         "false ended with status 1 and printed no words"]
 
 

@@ -51,8 +51,8 @@ LOST_NEIGHBOUR = ("Look at inserts beside deleted elements, if inserts find thei
                   "already deleted there, as told above. An editor that throws deleted elements away too early finds no place for it, and loses it or "
                   "holds it back for ever.")
 NUMBERS_OF_INSERTS = " Often the number that orders inserts does not grow when changes arrive, or the neighbour is not found."
-IDENTIFIERS = ("If the list is sorted by position identifiers, look at how that of {element} is made: it must lie {between}. And at how they are compared: "
-               "as text, 10 comes before 9.")
+IDENTIFIERS = ("If the list is sorted by position identifiers, print those of {names} at line {line}: if they are not in this order, look at how that of "
+               "{element} is made there; else at how they are compared (numbers not as text).")
 MAPPING = ("Look at how the position that a user sees is mapped to a place in the editor's own list{deleted}; and at whether the "
            "recorder writes the position that was asked for.")
 NUMBERS = ("Look at the numbers that order inserts at one place, if the editor has such (a clock, ids): {element} stands behind "
@@ -246,7 +246,7 @@ def of_position(evidence: Evidence) -> list:
     mapped = MAPPING.format(deleted=", where deleted elements may still stand" if has_delete else "")
     others = [other for other in response if other != name]
     at_most = min(operation.at, len(others))
-    sorted_by = identifiers(name, others[max(at_most - 1, 0):at_most], others[at_most:at_most + 1])
+    sorted_by = identifiers(operation, others[max(at_most - 1, 0):at_most], others[at_most:at_most + 1])
     if asked < 0 or name not in response or response.index(name) < asked:
         return [Cause("mapping", mapped), *sorted_by]
     passed = response[asked:response.index(name)]
@@ -255,13 +255,12 @@ def of_position(evidence: Evidence) -> list:
             *sorted_by, Cause("mapping", otherwise("If the editor has no such numbers", mapped))]
 
 
-def identifiers(element: str, before: list, behind: list) -> list:
+def identifiers(insert: Operation, before: list, behind: list) -> list:
     """Where an editor has to make the position identifier of an element that its author put between these two, of which one may be missing."""
     if not before and not behind:
         return []
-    between = (f"between those of {before[0]} and {behind[0]}" if before and behind else
-               f"behind that of {before[0]}" if before else f"before that of {behind[0]}")
-    return [Cause("identifiers", IDENTIFIERS.format(element=element, between=between))]
+    names = joined([*before, insert.element, *behind])
+    return [Cause("identifiers", IDENTIFIERS.format(names=names, line=insert.line, element=insert.element))]
 
 
 def of_refusal(evidence: Evidence, weak: bool) -> list:
@@ -286,7 +285,7 @@ def of_refusal(evidence: Evidence, weak: bool) -> list:
     if weak and moved:
         return [*lost(evidence), Cause("seen", told), *beside_deleted(evidence)]
     place = later.response.index(later.element)
-    sorted_by = identifiers(later.element, later.response[max(place - 1, 0):place], later.response[place + 1:place + 2])
+    sorted_by = identifiers(later, later.response[max(place - 1, 0):place], later.response[place + 1:place + 2])
     return [*lost(evidence), *beside_deleted(evidence), Cause("seen", told), *sorted_by]
 
 
