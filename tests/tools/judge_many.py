@@ -486,15 +486,15 @@ def fails_at(tally: Tally, program: str, folder: str) -> None:
         lines = Path(row["file"]).read_bytes().splitlines(keepends=True)
         before, behind = (run(program, ["verdict", "-"], b"".join(lines[:count])).status for count in (row["fails_at"] - 1, row["fails_at"]))
         tally.check(f"fails at: {row['file']}", (before, behind) == (0, 1), row)
-    for name, reads, is_halved in ("long", 2000, True), ("longest", 2600, False):
+    for name, reads in ("long", 2000), ("longest", 2600):  # of 8 and 10 million bytes
         names = [f"{i:032}" for i in range(60)]
         inserts = [f"0 ins {one} {at} : {' '.join(names[:at + 1])}" for at, one in enumerate(names)]
         shown = [f"{replica} read : {' '.join(names[is_wrong:])}" for i in range(reads) for replica, is_wrong in ((0, i == reads - 1), (1, i == 500))]
         write(folder, {f"{name}/one.trace": "|".join([*inserts, "1 recv 0 60", *shown])})
         (row,) = map(json.loads, judge(program, ["--json", f"{folder}/{name}"]).out.decode().splitlines())
         first, last = len(inserts) + 3 + 2 * 500 + 2, len(inserts) + 3 + 2 * reads - 1  # the wrong lines of replicas 1 and 0
-        tally.check(f"fails at: {name}", (row["fails_at"], row["lines"], row["report"]["at"]) == (
-            first if is_halved else last, last + 1, f"0.{60 + reads}") and ("causes" in row) == is_halved, row["fails_at"])
+        tally.check(f"fails at: {name}", (row["fails_at"], row["lines"], row["report"]["at"]) == (first, last + 1, f"0.{60 + reads}") and
+                    "causes" in row, row["fails_at"])
 
 
 def progress(tally: Tally, program: str, folder: str) -> None:

@@ -19,8 +19,6 @@ from .words import text_of, verdict_of, with_warnings
 
 NO_VERDICTS = ["unread", "failed"]
 KINDS = ["accepted", "refused", "contents", "position", "doubled", *NO_VERDICTS]
-MOST_HALVED = 1 << 23  # bytes of a trace whose beginnings are judged too
-PLACES = ["at", "first", "again"]  # what a report says of operations beside steps
 IN_WORDS = ["fault", "explanation"]  # of a row what is no field of its object in JSON
 
 
@@ -133,13 +131,9 @@ def warned_of(verdict: str, trace: bytes, side: Side, is_passing: bool) -> Warni
 
 
 def placed(row: Row, request: Request, trace: bytes, known: Beside) -> Row:
-    """The row of a failure with how many first lines fail already, of a long trace up to the last operation of its report, and what is
-    likely the cause; without where the program lies."""
+    """The row of a failure with how many first lines fail already, and what is likely the cause; without where the program lies."""
     try:
         recording = Recording(trace.decode(), known.delivered)
-        if len(trace) > MOST_HALVED:
-            named = [*(step["shown"] for step in row.report.get("steps", [])), *(row.report[key] for key in PLACES if key in row.report)]
-            return row._replace(fails_at=max(recording.operation(name).line for name in named))
         whole = Evidence(recording, row.report)
         found = failing_beginning(whole, report_of(request.program), request.weak)
         if found is None:
