@@ -320,7 +320,7 @@ WORDS = [
      "[b] inserted by 0.2 (line 4), arrived at replica 1 in line 6 (1 recv 0 3)|"
      "[b] was put behind a, which was not deleted there when b arrived (line 6)|[b] no operation deletes it||Where to "
      "look|It looks as if 0.2 (line 4) was not applied at replica 1: lost, or held back, or `received` is called before the change is applied.|No "
-     "receipt at replica 1 names 0.2 (line 4): the recording counts it as arrived with 0.3 (line 5). If each of your changes has a receipt of its own, "
+     "receipt at replica 1 names 0.2 (line 4): the recording counts it as arrived with 0.3 (line 5). If you record a receipt for each change, "
      "0.3 (line 5) overtook it, or it was lost."),
     ("a change that is lost before others of a server's order", 3, "0 ins a 0 : a|0 ins b 0 : b a|1 recv 0 1|1 read : a|1 ins c 1 : a c|2 recv 0 1|"
      "2 ins y 1 : a y|0 recv 2 1|0 recv 1 2|0 read : b a y c|1 recv 2 1|1 read : a c y|0 ins d 4 : b a y c d|0 ins e 5 : b a y c d e|1 recv 0 4|"

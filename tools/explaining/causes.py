@@ -25,8 +25,8 @@ NO_PLACE = (" Perhaps {insert} finds no place there for {element}: its neighbour
             "early loses such an insert or holds it back for ever.")
 NOT_APPLIED = ("It looks as if {changes} {were} not applied at replica {replica}: lost, or held back, or `received` is called before the "
                "change is applied.{moved}")
-BROUGHT = ("No receipt at replica {replica} names {changes}: the recording counts {them} as arrived with {brought}. If each of your changes has "
-           "a receipt of its own, {brought} overtook {them}, or {they} {were} lost.")
+BROUGHT = ("No receipt at replica {replica} names {changes}: the recording counts {them} as arrived with {brought}. If you record a receipt "
+           "for each change, {brought} overtook {them}, or {they} {were} lost.")
 LOST = ("Look first at whether {changes} {were} lost on {their} way to replica {replica}, or overtaken: no receipt there names {them}, though {others}. "
         "In an editor that sends positions, later changes then land in the wrong place.")
 OTHERS_HAVE = "all other changes of replica {author} have one"
