@@ -1217,7 +1217,14 @@ subprocess.Popen.__init__ = begin
 
 
 def stopped_soon(tally: Tally, other: str) -> None:
-    """It hears a signal while a thread starts a process for a beginning, and not only when all traces are judged."""
+    """It hears a signal while a thread starts a process for a beginning, and not only when all traces are judged; and waits for a thread that
+    is about to begin."""
+    about = ("import signal, sys, threading, time; sys.path.insert(0, sys.argv[1]); from explaining.commands import end_by\n"
+             "late = threading.Thread(target=lambda: (time.sleep(0.1), print('ended', flush=True)))\n"
+             "others, threading.enumerate = threading.enumerate(), lambda: [*others, late]\n"
+             "threading.Timer(0.3, late.start).start()\nend_by(signal.SIGTERM)\n")
+    got = run(sys.executable, ["-c", about, str(ROOT / "tools")])
+    tally.same("stopped: a thread that is about to begin", got, Ended(-signal.SIGTERM, b"ended\n", b""))
     os.makedirs(f"{other}/site")
     Path(other, "site", "sitecustomize.py").write_text(SLOW_STARTS)
     write(f"{other}/many", {f"{i}.trace": "0 ins a 0 : a|0 read :" for i in range(20)})

@@ -7,6 +7,7 @@ import os
 import signal
 import sys
 import threading
+import time
 import traceback
 from argparse import Action, ArgumentParser, Namespace
 from importlib import import_module
@@ -17,7 +18,8 @@ from .files import shown
 VERSION = "0.2.0"  # the program's own
 STATUS, OUT_OF_MEMORY = 2, 3
 STOPS = [signal.SIGTERM, signal.SIGHUP]  # that would leave running what was begun, where they are not caught
-MOST_WAITED = 5  # seconds for a thread, where a signal has stopped this
+MOST_WAITED = 5  # seconds for all threads, where a signal has stopped this
+BEFORE_BEGINNING = 0.01  # seconds between two looks whether a thread has begun
 
 
 class Stopped(BaseException):
@@ -107,9 +109,16 @@ def be_stopped(stop: int, _: object) -> None:
 
 def end_by(stop: int) -> None:
     """Ends this as the signal does, once other threads have: one may begin the program just then, which it ends at once."""
+    until = time.monotonic() + MOST_WAITED
     for thread in threading.enumerate():
-        if thread is not threading.current_thread():
-            thread.join(MOST_WAITED)
+        while thread is not threading.current_thread():
+            try:
+                thread.join(max(0.0, until - time.monotonic()))
+                break
+            except RuntimeError:  # it is about to begin
+                if time.monotonic() > until:
+                    break
+                time.sleep(BEFORE_BEGINNING)
     signal.signal(stop, signal.SIG_DFL)
     os.kill(os.getpid(), stop)
 
