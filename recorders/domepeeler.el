@@ -95,7 +95,10 @@ They are those that a replica lacks, or has made nothing of.")
   stop      ; whether the session is judged after each call that takes a list; `weak' where weak is enough
   stopped   ; what is wrong with it, in words
   notes     ; the last one first
-  deliveries)  ; of each call of `domepeeler-delivered' the first line that it wrote, and the last; the last call first
+  deliveries  ; of each call of `domepeeler-delivered' the first line that it wrote, and the last; the last call first
+  (refused 0)  ; how many calls that record were refused, but at a limit, and but for those that were not causal
+  first-refused  ; why the first of them was
+  open)  ; of each replica and author, as (REPLICA AUTHOR N WORDS), the last change that was not causal there, if it has not come since
 
 (defmacro domepeeler--defun (name arguments doc &rest body)
   "Define NAME as `defun' does: a call on a recording, its first argument.
@@ -185,31 +188,79 @@ that again, and record nothing.  A program that can't be run signals as in
                 (error (format "The recording is not accepted: %s. There is no explanation: %s" verdict (error-message-string why)))))
         (domepeeler--go-on recording)))))
 
+(defmacro domepeeler--noting (recording body)
+  "Do BODY; where it is refused, remember that of RECORDING."
+  (declare (debug (form form)))
+  `(condition-case why
+       ,body
+     (domepeeler-refused
+      (domepeeler--note-refused ,recording why)
+      (signal (car why) (cdr why)))))
+
+(defun domepeeler--note-refused (recording why)
+  "Remember that a call of RECORDING was refused.
+What it says is not recorded.
+At a limit the session ends, and the caller knows it; and of what is not
+causal is known whether it comes later."
+  (unless (memq (car why) '(domepeeler-full domepeeler-not-causal))
+    (cl-incf (domepeeler-recording-refused recording))
+    (unless (domepeeler-recording-first-refused recording)
+      (setf (domepeeler-recording-first-refused recording) (nth 1 why)))))
+
+(defun domepeeler--leave-open (recording replica author n words)
+  "AUTHOR's N was not causal at REPLICA, and WORDS say why."
+  (let* ((open (domepeeler-recording-open recording))
+         (one (cl-find-if (lambda (one) (and (= (nth 0 one) replica) (= (nth 1 one) author))) open)))
+    (cond
+     ((not one) (setf (domepeeler-recording-open recording) (append open (list (list replica author n words)))))
+     ((>= n (nth 2 one)) (setcdr (cdr one) (list n words))))))
+
+(defun domepeeler--close (recording replica)
+  "What was not causal at REPLICA, and has come since, is open no more."
+  (let ((others (domepeeler--replica-others (domepeeler--of recording replica))))
+    (setf (domepeeler-recording-open recording)
+          (cl-remove-if (lambda (one) (and (= (nth 0 one) replica) (<= (nth 2 one) (aref others (nth 1 one)))))
+                        (domepeeler-recording-open recording)))
+    nil))
+
+(defun domepeeler--refusals (recording)
+  "That calls of RECORDING were refused, if what they say was not recorded later.
+A list of strings."
+  (let ((calls (domepeeler-recording-refused recording))
+        (first (domepeeler-recording-first-refused recording))
+        (open (car (sort (copy-sequence (domepeeler-recording-open recording))
+                         (lambda (a b) (or (< (car a) (car b)) (and (= (car a) (car b)) (< (nth 1 a) (nth 1 b)))))))))
+    (append
+     (cond
+      ((= calls 1) (list (format "a call was refused, so what it says is not recorded: %s" first)))
+      ((> calls 1) (list (format "%d calls were refused, so what they say is not recorded; the first: %s" calls first))))
+     (and open (list (format "a call was refused, and what it says never came: %s" (nth 3 open)))))))
+
 (domepeeler--defun domepeeler-insert (recording replica name position response)
   "REPLICA inserted NAME at POSITION and then had the list RESPONSE.
 Answers the operation's number."
   (domepeeler--go-on recording)
-  (prog1 (domepeeler--operation recording replica "ins" response name position)
+  (prog1 (domepeeler--noting recording (domepeeler--operation recording replica "ins" response name position))
     (domepeeler--answered recording)))
 
 (domepeeler--defun domepeeler-delete (recording replica name response)
   "REPLICA deleted NAME and then had the list RESPONSE.
 Answers the operation's number."
   (domepeeler--go-on recording)
-  (prog1 (domepeeler--operation recording replica "del" response name)
+  (prog1 (domepeeler--noting recording (domepeeler--operation recording replica "del" response name))
     (domepeeler--answered recording)))
 
 (domepeeler--defun domepeeler-read (recording replica response)
   "REPLICA read its list, RESPONSE.  Answers the operation's number."
   (domepeeler--go-on recording)
-  (prog1 (domepeeler--operation recording replica "read" response)
+  (prog1 (domepeeler--noting recording (domepeeler--operation recording replica "read" response))
     (domepeeler--answered recording)))
 
 (domepeeler--defun domepeeler-view (recording replica part)
   "REPLICA showed PART of its list, the window of an editor say.
 Answers the operation's number."
   (domepeeler--go-on recording)
-  (prog1 (domepeeler--operation recording replica "view" part)
+  (prog1 (domepeeler--noting recording (domepeeler--operation recording replica "view" part))
     (setcar (last (domepeeler-recording-lines recording)) "trace 2")
     (domepeeler--answered recording)))
 
@@ -217,6 +268,11 @@ Answers the operation's number."
   "AUTHOR's operation N was applied at REPLICA.
 With it came all that AUTHOR had seen by then."
   (domepeeler--go-on recording)
+  (domepeeler--noting recording (domepeeler--received-now recording replica author n))
+  (domepeeler--close recording replica))
+
+(defun domepeeler--received-now (recording replica author n)
+  "Write the receipt, or refuse it."
   (domepeeler--acts recording replica)
   (domepeeler--known recording author)
   (unless (domepeeler--whole n 1 domepeeler--position "operation number")
@@ -236,13 +292,17 @@ CLOCK is a list or a vector: for each replica how many of its inserts and
 deletes AUTHOR had seen, its own with the carried ones among them.
 Writes the receipt, unless REPLICA has it already."
   (domepeeler--go-on recording)
+  (domepeeler--noting recording (domepeeler--received-clock-now recording replica author clock (or changes 1)))
+  (domepeeler--close recording replica))
+
+(defun domepeeler--received-clock-now (recording replica author clock changes)
+  "Write the receipt of an update that carries CHANGES, or refuse it."
   (domepeeler--acts recording replica)
   (domepeeler--known recording author)
   (when (= author replica)
     (domepeeler--refuse "replica %d receives no operation of its own" replica))
   (let* ((counts (domepeeler--counts recording clock))
          (most (aref counts author))
-         (changes (or changes 1))
          (own (domepeeler--replica-changes (domepeeler--of recording author))))
     (when (= most 0)
       (domepeeler--refuse "this is an update of replica %d, but its clock counts no change of replica %d" author author))
@@ -265,6 +325,12 @@ Writes for each replica the receipts that are missing, and a read.  So a
 change that an editor has lost, or still holds back, is `contents' there.
 RECORDING keeps which lines it wrote."
   (domepeeler--go-on recording)
+  (domepeeler--noting recording (domepeeler--delivered-now recording lists))
+  (domepeeler--answered recording)
+  nil)
+
+(defun domepeeler--delivered-now (recording lists)
+  "Write the receipts that are missing, and a read of each of LISTS."
   (when (domepeeler-recording-only recording)
     (domepeeler--refuse "one replica's log can't say that everything has arrived: the others are recorded elsewhere"))
   (let* ((replicas (domepeeler-recording-replicas recording))
@@ -285,8 +351,8 @@ RECORDING keeps which lines it wrote."
          (seq-do-indexed (lambda (own replica) (domepeeler--undo recording replica own)) before)
          (signal (car why) (cdr why))))
       (push (cons first (domepeeler-lines recording)) (domepeeler-recording-deliveries recording))
-      (domepeeler--answered recording)
-      nil)))
+      (dolist (one (domepeeler-recording-open recording))
+        (setf (nth 2 one) (1+ domepeeler--position)))))) ; it stays open: none of these receipts brought it
 
 (domepeeler--defun domepeeler-note (recording text)
   "Keep TEXT, a word of yours on the whole RECORDING.
@@ -363,10 +429,11 @@ If not, another process has put its own there, beside this trace."
 
 (defun domepeeler--beside (recording)
   "What stands in the file beside the trace."
-  (format "%d\nlanguage emacs-lisp\n%s%s" (domepeeler-lines recording)
+  (format "%d\nlanguage emacs-lisp\n%s%s%s" (domepeeler-lines recording)
           (mapconcat (lambda (note) (format "note %s\n" note)) (reverse (domepeeler-recording-notes recording)) "")
           (mapconcat (lambda (range) (format "delivered %d %d\n" (car range) (cdr range)))
-                     (reverse (domepeeler-recording-deliveries recording)) "")))
+                     (reverse (domepeeler-recording-deliveries recording)) "")
+          (mapconcat (lambda (told) (format "refused %s\n" told)) (domepeeler--refusals recording) "")))
 
 (defmacro domepeeler--named (file &rest body)
   "Do BODY; an error of a file is told with FILE's name, as one for an error."
@@ -401,15 +468,17 @@ Answers the new file's name."
 
 (domepeeler--defun domepeeler-warnings (recording)
   "What an accepted verdict on RECORDING may hide, a list of strings.
-Such are a change that never arrived, a replica that shows nothing, a
-delete of what nothing inserts.  It asks no program, and takes time
-linear in the text."
+Such are that a call was refused, a change that never arrived, a replica
+that shows nothing, a delete of what nothing inserts.  It asks no program,
+and takes time linear in the text."
   (when (domepeeler-recording-only recording)
     (domepeeler--refuse domepeeler--one-log))
   (if (= (domepeeler-lines recording) domepeeler--head)
-      (list "nothing was recorded: the trace has no entry, so the verdict says nothing of an editor")
+      (append (domepeeler--refusals recording)
+              (list "nothing was recorded: the trace has no entry, so the verdict says nothing of an editor"))
     (let ((warned (domepeeler--warned recording)))
-      (append (domepeeler--different recording warned)
+      (append (domepeeler--refusals recording)
+              (domepeeler--different recording warned)
               (domepeeler--unheard recording)
               (domepeeler--unshown recording warned)
               (domepeeler--without-operation recording warned)
@@ -419,11 +488,12 @@ linear in the text."
 (domepeeler--defun domepeeler-judge (recording &optional program weak)
   "The report of PROGRAM on RECORDING, as an alist.
 It has one more key, `warnings': where the verdict is accepted, or with
-WEAK where weak holds, a list of what that may hide, and else nil.
+WEAK where weak holds, a list of what that may hide, and else whether
+calls were refused.
 PROGRAM is by default that of the environment's DOMEPEELER, or \"domepeeler\"."
   (let* ((report (domepeeler--report recording program))
          (is-passing (or (equal (alist-get 'verdict report) "accepted") (and weak (eq (alist-get 'weak report) t)))))
-    (append report (list (cons 'warnings (and is-passing (domepeeler-warnings recording)))))))
+    (append report (list (cons 'warnings (if is-passing (domepeeler-warnings recording) (domepeeler--refusals recording)))))))
 
 (defun domepeeler--report (recording program)
   "PROGRAM's own report on RECORDING, as an alist."
@@ -445,7 +515,8 @@ are found.  With WEAK the weak list specification alone is asked for."
                              collect (format "%d-%d" first last)))
          (said (apply #'domepeeler--ask recording named "DOMEPEELER_EXPLAIN to the tool's path" "." "words" "--language" "emacs-lisp"
                       (append (and weak '("--weak"))
-                              (cl-loop for range in (reverse delivered) append (list "--delivered" range)) (list "-"))))
+                              (cl-loop for range in (reverse delivered) append (list "--delivered" range))
+                              (cl-loop for told in (domepeeler--refusals recording) append (list "--refused" told)) (list "-"))))
          (words (make-hash-table :test #'equal))
          (last (or (string-match "\nThe list specifications\n" said) (length said))))
     (dolist (word (split-string said "[^A-Za-z0-9]+"))
@@ -630,13 +701,14 @@ COUNTS are the clock of the update, which carries AUTHOR's changes from FIRST."
            for place = (1+ (domepeeler--up-to of (domepeeler--has recording replica other)))
            for lacking = (gethash place (domepeeler--replica-changes of))
            when (and (<= place seen) (or (/= other author) (< lacking first)))
-           do (signal 'domepeeler-not-causal
-                      (list (format "not causal: %d.%d was applied at replica %d before %d.%d, which replica %d had seen; %s%s"
-                                    author n replica other lacking author
-                                    (format "%d.%d must arrive first or in the same update: perhaps it was lost, or only the call for it is missing"
-                                            other lacking)
-                                    (if (/= other author) ""
-                                      "; if the update carried more than one change, say how many (`changes`)"))))))
+           do (let ((words (format "not causal: %d.%d was applied at replica %d before %d.%d, which replica %d had seen; %s%s"
+                                   author n replica other lacking author
+                                   (format "%d.%d must arrive first or in the same update: perhaps it was lost, or only the call for it is missing"
+                                           other lacking)
+                                   (if (/= other author) ""
+                                     "; if the update carried more than one change, say how many (`changes`)"))))
+                (domepeeler--leave-open recording replica author n words)
+                (signal 'domepeeler-not-causal (list words)))))
 
 (defun domepeeler--delivered-at (recording replica list)
   "Write the receipts that REPLICA lacks, and a read of its LIST.

@@ -98,7 +98,7 @@ enum {
     DOMEPEELER_NOTES = 20,
     DOMEPEELER_LETTERS = 200, /* of a note */
     DOMEPEELER_DELIVERED = 100, /* calls of domepeeler_delivered() that the explainer is told of, the last ones */
-    DOMEPEELER_WORDS = 6 + 2 * DOMEPEELER_DELIVERED, /* of a command, and a NULL behind them */
+    DOMEPEELER_WORDS = 12 + 2 * DOMEPEELER_DELIVERED, /* of a command, and a NULL behind them */
     DOMEPEELER_TOLD = 5,      /* deletes, or inserts, that warnings tell one by one */
     DOMEPEELER_CHANGES = 3    /* that warnings tell one by one of those that a replica lacks, or has made nothing of */
 };
@@ -140,6 +140,13 @@ struct domepeeler_id {
     char *id, name[DOMEPEELER_BYTES + 1];
 };
 
+/* The last change of an author that was not causal at a replica, 0 where there is none, or it has come since; what was lacking; and whether it
+ * stays open whatever comes. */
+struct domepeeler_open {
+    unsigned n, lacking;
+    int other, stays;
+};
+
 struct domepeeler {
     pthread_mutex_t *lock; /* held by each call */
     char *text;
@@ -157,7 +164,7 @@ struct domepeeler {
     const char *file; /* from where the call comes that is under way, or NULL */
     int line;
     size_t refused; /* calls, but for limits that domepeeler_full() was asked of, and what is not causal, which may come again */
-    unsigned open[DOMEPEELER_REPLICAS][DOMEPEELER_REPLICAS]; /* by replica and author: the last change that was refused so, until it comes */
+    struct domepeeler_open open[DOMEPEELER_REPLICAS][DOMEPEELER_REPLICAS]; /* by replica and author: the last change that was refused so */
     int stops, is_weak_enough, is_wrong; /* whether calls are judged, and how; whether one was wrong */
     int is_stopping;                     /* whether the call that is under way is to call back when it ends */
     void (*call_back)(const char *words, void *data);
@@ -165,7 +172,7 @@ struct domepeeler {
     char *wrong; /* the words for that, or NULL without memory */
     int full, is_limit_seen; /* whether the last one was at a limit; and whether the first of these was asked of, or there is none */
     char why[512], first[512]; /* of the last call that answered 0, and of the first one that was refused so */
-    char limit[512], not_causal[512]; /* of the first at a limit, and of the last that was not causal */
+    char limit[512]; /* of the first at a limit */
 };
 
 /* The code point at which the text stands, which is behind it then; -1 where there is no UTF-8. */
@@ -688,6 +695,40 @@ static inline void domepeeler_say_callers(const struct domepeeler *d, struct dom
     }
 }
 
+/* How it is told that a change is not causal: by author and number, replica, and twice what was lacking, with the author between; and what else
+ * may be it. */
+#define DOMEPEELER_NOT_CAUSAL                                                                                                        \
+    "not causal: %d.%u was applied at replica %d before %d.%u, which replica %d had seen; %d.%u must arrive first or in the same "     \
+    "update: perhaps it was lost, or only the call for it is missing%s"
+
+static inline const char *domepeeler_more(int author, int other) {
+    return other == author ? "; if the update carried more than one change, say how many (`changes`)" : "";
+}
+
+/* Says of the first change that is open why it was refused; nothing where there is none. */
+static inline void domepeeler_say_open(const struct domepeeler *d, struct domepeeler_words *said, const char *before, const char *end) {
+    for (int pair = 0; pair < d->replicas * d->replicas; pair++) {
+        int replica = pair / d->replicas, author = pair % d->replicas;
+        const struct domepeeler_open *open = &d->open[replica][author];
+        if (!open->n) continue;
+        domepeeler_say(said, "%sa call was refused, and what it says never came: ", before);
+        domepeeler_say(said, DOMEPEELER_NOT_CAUSAL, author, open->n, replica, open->other, open->lacking, author, open->other, open->lacking,
+                       domepeeler_more(author, open->other));
+        domepeeler_say(said, "%s", end);
+        return;
+    }
+}
+
+/* Says whether calls were refused, each time between these words. */
+static inline void domepeeler_say_refused(const struct domepeeler *d, struct domepeeler_words *said, const char *before, const char *end) {
+    if (d->refused == 1) domepeeler_say(said, "%sa call was refused, so what it says is not recorded: %s%s", before, d->first, end);
+    if (d->refused > 1)
+        domepeeler_say(said, "%s%zu calls were refused, so what they say is not recorded; the first: %s%s", before, d->refused, d->first, end);
+    if (*d->limit && !d->is_limit_seen)
+        domepeeler_say(said, "%sa limit is reached, so what came later is not recorded: %s%s", before, d->limit, end);
+    domepeeler_say_open(d, said, before, end);
+}
+
 static inline unsigned domepeeler_save_now(struct domepeeler *d, const char *path) {
     struct stat about;
     if (!stat(path, &about) && !S_ISREG(about.st_mode)) return domepeeler_save_into(d, path);
@@ -696,6 +737,7 @@ static inline unsigned domepeeler_save_now(struct domepeeler *d, const char *pat
     domepeeler_say(&lines, "%zu\nlanguage c\n", domepeeler_lines_now(d));
     for (size_t i = 0; i < d->noted; i++) domepeeler_say(&lines, "note %s\n", d->notes[i]);
     for (size_t i = 0; i < d->delivered; i++) domepeeler_say(&lines, "delivered %zu %zu\n", d->deliveries[i][0], d->deliveries[i][1]);
+    domepeeler_say_refused(d, &lines, "refused ", "\n");
     domepeeler_say_callers(d, &lines);
     int is_room = domepeeler_said(d, &beside) && domepeeler_said(d, &lines);
     unsigned is_saved = is_room && domepeeler_save_both(d, path, beside.text, lines.text);
@@ -901,17 +943,12 @@ static inline unsigned domepeeler_receipt(struct domepeeler *d, int replica, int
     return 1;
 }
 
-/* A change that is not causal stays open until it has come, otherwise than by domepeeler_delivered(). Answers 0. */
-static inline unsigned domepeeler_leave_open(struct domepeeler *d, int replica, int author, unsigned n) {
-    if (n > d->open[replica][author]) d->open[replica][author] = n;
-    memcpy(d->not_causal, d->why, sizeof d->not_causal);
-    return 0;
-}
-
 /* What has come by now is open no more. Answers what was said. */
 static inline unsigned domepeeler_close_open(struct domepeeler *d, int replica, unsigned said) {
-    for (int author = 0; author < d->replicas && said; author++)
-        if (d->open[replica][author] <= d->of[replica].others[author]) d->open[replica][author] = 0;
+    for (int author = 0; author < d->replicas && said; author++) {
+        struct domepeeler_open *open = &d->open[replica][author];
+        if (open->n <= d->of[replica].others[author] && !open->stays) open->n = 0;
+    }
     return said;
 }
 
@@ -969,7 +1006,7 @@ static inline unsigned domepeeler_delivered_now(struct domepeeler *d, const char
     if (is_said) {
         for (int replica = 0; replica < d->replicas; replica++) /* what is open stays so, though it counts as arrived */
             for (int author = 0; author < d->replicas; author++)
-                if (d->open[replica][author]) d->open[replica][author] = (unsigned)-1;
+                d->open[replica][author].stays = d->open[replica][author].n > 0;
         d->deliveries[d->delivered][0] = first;
         d->deliveries[d->delivered++][1] = domepeeler_lines_now(d);
         return domepeeler_answered(d, 1);
@@ -1018,7 +1055,10 @@ static inline unsigned domepeeler_in_one_recording(struct domepeeler *d) {
 }
 
 static inline unsigned domepeeler_clock_now(struct domepeeler *d, int replica, unsigned *clock) {
-    if (!domepeeler_acts(d, replica) || !domepeeler_in_one_recording(d)) return 0;
+    size_t refused = d->refused;
+    unsigned is_told = domepeeler_acts(d, replica) && domepeeler_in_one_recording(d);
+    d->refused = refused; /* nothing was to be recorded, so nothing is lost */
+    if (!is_told) return 0;
     for (int other = 0; other < d->replicas; other++)
         clock[other] = domepeeler_up_to(&d->of[other], domepeeler_has(d, replica, other));
     return 1;
@@ -1034,6 +1074,18 @@ static inline unsigned domepeeler_check_clock(struct domepeeler *d, const unsign
     return 1;
 }
 
+/* A change that is not causal is refused. It stays open until it has come, otherwise than by domepeeler_delivered(). Answers 0. */
+static inline unsigned domepeeler_leave_open(struct domepeeler *d, int replica, int author, unsigned n, int other, unsigned lacking) {
+    struct domepeeler_open *open = &d->open[replica][author];
+    if (n >= open->n) {
+        open->n = n;
+        open->other = other;
+        open->lacking = lacking;
+    }
+    return domepeeler_refuse(d, 0, DOMEPEELER_NOT_CAUSAL, author, n, replica, other, lacking, author, other, lacking,
+                             domepeeler_more(author, other));
+}
+
 /* The replica has, or gets with the carried changes, which are the author's from the first one on, all that the author had seen at
  * its operation n. */
 static inline unsigned domepeeler_check_causal(struct domepeeler *d, int replica, int author, unsigned n, const unsigned *clock,
@@ -1044,11 +1096,7 @@ static inline unsigned domepeeler_check_causal(struct domepeeler *d, int replica
         unsigned lacking = domepeeler_up_to(of, domepeeler_has(d, replica, other));
         if (clock[other] > seen) seen = clock[other];
         if (lacking < seen && (other != author || of->changes[lacking] < first))
-            return domepeeler_refuse(d, 0, "not causal: %d.%u was applied at replica %d before %d.%u, which replica %d had seen; "
-                                           "%d.%u must arrive first or in the same update: perhaps it was lost, or only the call for it is missing%s",
-                                     author, n, replica, other,
-                                     of->changes[lacking], author, other, of->changes[lacking],
-                                     other == author ? "; if the update carried more than one change, say how many (`changes`)" : "");
+            return domepeeler_leave_open(d, replica, author, n, other, of->changes[lacking]);
     }
     return 1;
 }
@@ -1064,7 +1112,7 @@ static inline unsigned domepeeler_received_clock_now(struct domepeeler *d, int r
         return domepeeler_refuse(d, 0, "an update carries 1 to %u of the changes that its clock counts, not %u", most, changes);
     for (unsigned i = most - changes; i < most; i++)
         if (own[i] > have && !domepeeler_check_causal(d, replica, author, own[i], clock, own[most - changes]))
-            return domepeeler_leave_open(d, replica, author, own[i]);
+            return 0;
     return own[most - 1] > have ? domepeeler_close_open(d, replica, domepeeler_receipt(d, replica, author, own[most - 1])) : 1;
 }
 
@@ -1380,19 +1428,6 @@ static inline int domepeeler_warned_room(struct domepeeler_warned *w, size_t ent
     return 1;
 }
 
-/* Says whether calls were refused. */
-static inline void domepeeler_say_refused(const struct domepeeler *d, struct domepeeler_words *said, const char *end) {
-    if (d->refused == 1) domepeeler_say(said, "a call was refused, so what it says is not recorded: %s%s", d->first, end);
-    if (d->refused > 1)
-        domepeeler_say(said, "%zu calls were refused, so what they say is not recorded; the first: %s%s", d->refused, d->first, end);
-    if (*d->limit && !d->is_limit_seen) domepeeler_say(said, "a limit is reached, so what came later is not recorded: %s%s", d->limit, end);
-    for (int pair = 0; pair < d->replicas * d->replicas; pair++) {
-        if (!d->open[pair / d->replicas][pair % d->replicas]) continue;
-        domepeeler_say(said, "a call was refused, and what it says never came: %s%s", d->not_causal, end);
-        break;
-    }
-}
-
 static inline char *domepeeler_warnings_now(struct domepeeler *d) {
     struct domepeeler_words said = {NULL, 0, 0, 0};
     struct domepeeler_warned w;
@@ -1401,7 +1436,7 @@ static inline char *domepeeler_warnings_now(struct domepeeler *d) {
         domepeeler_fail(d, "one replica's log is no recording: merge the logs first");
         return NULL;
     }
-    domepeeler_say_refused(d, &said, "\n");
+    domepeeler_say_refused(d, &said, "", "\n");
     if (!entries) domepeeler_say(&said, "nothing was recorded: the trace has no entry, so the verdict says nothing of an editor\n");
     if (!entries) return domepeeler_said(d, &said);
     memset(&w, 0, sizeof w);
@@ -1617,7 +1652,7 @@ static inline char *domepeeler_report(struct domepeeler *d, const char *program)
 static inline char *domepeeler_beside(struct domepeeler *d, int is_passing) {
     struct domepeeler_words said = {NULL, 0, 0, 0};
     if (is_passing) return domepeeler_warnings_now(d);
-    domepeeler_say_refused(d, &said, "\n");
+    domepeeler_say_refused(d, &said, "", "\n");
     return domepeeler_said(d, &said);
 }
 
@@ -1733,7 +1768,6 @@ static inline char *domepeeler_with_ids(struct domepeeler *d, char *said) {
     struct domepeeler_words whole = {NULL, 0, 0, 0};
     const char *title = "\nIds that were too long for a name\n";
     char *named = (char *)calloc(DOMEPEELER_HEAD + d->called + 1, 1), *last = strstr(said, "\nThe list specifications\n");
-    domepeeler_say_refused(d, &whole, "\n\n");
     if (last) *last = '\0';
     domepeeler_say_with_places(d, &whole, said);
     if (named) domepeeler_say_named(d, &whole, said, named);
@@ -1767,6 +1801,7 @@ static inline char *domepeeler_explained(struct domepeeler *d, const char *expla
     if (!explainer) explainer = getenv("DOMEPEELER_EXPLAIN");
     if (!explainer || !*explainer) explainer = domepeeler_beside_program(path, sizeof path);
     const char *words[DOMEPEELER_WORDS] = {explainer, "--language", "c"};
+    struct domepeeler_words refused = {NULL, 0, 0, 0};
     size_t count = 3, first = d->delivered > DOMEPEELER_DELIVERED ? d->delivered - DOMEPEELER_DELIVERED : 0;
     for (size_t i = first; i < d->delivered; i++) {
         snprintf(ranges[i - first], sizeof *ranges, "%zu-%zu", d->deliveries[i][0], d->deliveries[i][1]);
@@ -1774,8 +1809,15 @@ static inline char *domepeeler_explained(struct domepeeler *d, const char *expla
         words[count++] = ranges[i - first];
     }
     if (goal) words[count++] = goal;
+    domepeeler_say_refused(d, &refused, "", "\n");
+    for (char *at = domepeeler_said(d, &refused); at && *at; at += strlen(at) + 1) {
+        at[strcspn(at, "\n")] = 0;
+        words[count++] = "--refused";
+        words[count++] = at;
+    }
     words[count] = "-";
-    char *said = domepeeler_ask(d, words, "DOMEPEELER_EXPLAIN to the tool's path", "words", 0);
+    char *said = refused.is_short ? NULL : domepeeler_ask(d, words, "DOMEPEELER_EXPLAIN to the tool's path", "words", 0);
+    free(refused.text);
     return said ? domepeeler_with_ids(d, said) : NULL;
 }
 

@@ -95,6 +95,9 @@ export class Recording {
   #changes = new Map() // by the id of a change: its operations, of one author
   #notes = []
   #delivered = [] // of each call of `delivered`, the first and the last line of the trace that it wrote
+  #refused = 0 // how many calls that record were refused, but at a limit, and but for those that were not causal
+  #firstRefused = "" // the words of the first of them
+  #open = new Map() // by replica and author the last change that was not causal there, if it has not come since, and why it was not
 
   #stop
   #weak
@@ -157,6 +160,10 @@ export class Recording {
   /** The author's operation n, and with it all that the author had seen by then, was applied at the replica. */
   received(replica, author, n) {
     this.#goOn(Recording.prototype.received)
+    this.#noting(() => this.#recordReceived(replica, author, n))
+  }
+
+  #recordReceived(replica, author, n) {
     this.#acts(replica)
     this.#known(author)
     if (!whole(n, 1, MOST_POSITION)) {
@@ -169,6 +176,7 @@ export class Recording {
     }
     this.#room(replica)
     this.#receipt(replica, author, n)
+    this.#close(replica)
   }
 
   /** The author's update with this vector clock was applied at the replica: it carries the last of the author's changes that the clock
@@ -176,6 +184,10 @@ export class Recording {
    * with the carried ones among them: a list, a Map by replica, or an object. Writes the receipt, unless the replica has it already. */
   receivedClock(replica, author, clock, changes = 1) {
     this.#goOn(Recording.prototype.receivedClock)
+    this.#noting(() => this.#recordReceivedClock(replica, author, clock, changes))
+  }
+
+  #recordReceivedClock(replica, author, clock, changes) {
     this.#acts(replica)
     this.#known(author)
     this.#ofAnother(replica, author)
@@ -194,6 +206,10 @@ export class Recording {
    * them, unless the replica has it already. */
   receivedChanges(replica, changeIds) {
     this.#goOn(Recording.prototype.receivedChanges)
+    this.#noting(() => this.#recordReceivedChanges(replica, changeIds))
+  }
+
+  #recordReceivedChanges(replica, changeIds) {
     this.#acts(replica)
     this.#inOneRecording()
     if (typeof changeIds === "string" || typeof changeIds?.[Symbol.iterator] !== "function") {
@@ -235,6 +251,7 @@ export class Recording {
       throw why
     }
     this.#delivered.push([before.lines + 1, this.#lines.length])
+    for (const one of this.#open.values()) one.n = Infinity // it stays open: none of these receipts brought it
   }
 
   /** Keeps a word of yours for the whole recording, as "seed 17": one line of 1 to 200 printable characters. `save` writes it beside the
@@ -279,7 +296,8 @@ export class Recording {
     const text = this.text(), places = this.#places(await modules())
     const notes = this.#notes.map((note) => `note ${note}`)
     const delivered = this.#delivered.map(([first, last]) => `delivered ${first} ${last}`)
-    const beside = [this.#lines.length, "language javascript", ...notes, ...delivered, ...(this.#hasLog ? ["log"] : []),
+    const refused = this.#refusals().map((told) => `refused ${told}`)
+    const beside = [this.#lines.length, "language javascript", ...notes, ...delivered, ...(this.#hasLog ? ["log"] : []), ...refused,
       ...places.map(([line, told]) => `${line} ${told}`)]
     const there = await stat(name).catch(() => null)
     if (there !== null && !there.isFile()) return await writeFile(name, text).catch((why) => { throw telling(why, name) })
@@ -293,20 +311,20 @@ export class Recording {
     throw Object.assign(new Error(`another process saves there too: ${escaped(name)}`), { code: "EBUSY", path: name })
   }
 
-  /** What an accepted verdict on this recording may hide: that replicas end differently, say, or that nothing was recorded. A promise of
-   * a list. */
+  /** What an accepted verdict on this recording may hide: that a call was refused, say, that replicas end differently, or that nothing was
+   * recorded. A promise of a list. */
   async warnings() {
     if (this.#only !== null) throw new Refused(ONE_LOG)
     const found = hidden(this.#lines), withNearest = this.#nearest(await modules())
-    return found.map(withNearest)
+    return [...this.#refusals(), ...found.map(withNearest)]
   }
 
   /** A promise of the program's report on this recording, and as `warnings` what it may hide where it says `accepted`; with `weak`, where
-   * weak holds. The program is the words that are given, that of $DOMEPEELER, or `domepeeler`. */
+   * weak holds; and of any whether calls were refused. The program is the words that are given, that of $DOMEPEELER, or `domepeeler`. */
   async judge(program = null, { weak = false } = {}) {
     const report = this.#report(await modules(), program)
     const isPassing = report.verdict === "accepted" || (weak && report.weak === true)
-    return { ...report, warnings: isPassing ? await this.warnings() : [] }
+    return { ...report, warnings: isPassing ? await this.warnings() : this.#refusals() }
   }
 
   // The program's report on this recording.
@@ -325,7 +343,7 @@ export class Recording {
   // caller of the method.
   #answered(method, record) {
     this.#goOn(method)
-    const answer = record()
+    const answer = this.#noting(record)
     const why = this.#stop ? this.#wrong() : null
     if (why) throw from(method, why)
     return answer
@@ -365,7 +383,7 @@ export class Recording {
     const command = besideProgram(node, "domepeeler-explain")
     const delivered = this.#delivered.slice(-MOST_DELIVERED).flatMap(([first, last]) => ["--delivered", `${first}-${last}`])
     const { name, done } = this.#ask(node, explainer, "DOMEPEELER_EXPLAIN", command, "the tool's",
-      [...(weak ? ["--weak"] : []), "--language", "javascript", ...delivered, "-"])
+      [...(weak ? ["--weak"] : []), "--language", "javascript", ...delivered, ...this.#refusals().flatMap((told) => ["--refused", told]), "-"])
     if ((done.status !== 0 && done.status !== 1) || !done.stdout) throw ended(name, done, "words")
     const words = new Set(done.stdout.match(/[A-Za-z0-9]+/g))
     const named = [...this.ids()].filter(([short]) => words.has(short) && short.startsWith("long"))
@@ -633,14 +651,48 @@ export class Recording {
       this.#replicas[author].pasts[n - 1].forEach((past, other) => {
         const first = lacking[other]
         if (first === undefined || first > Math.max(other === author ? n - 1 : past, seen ? seen[other] : 0)) return
-        throw new NotCausal(`not causal: ${author}.${n} was applied at replica ${replica} before ${other}.${first}, ` +
+        const why = new NotCausal(`not causal: ${author}.${n} was applied at replica ${replica} before ${other}.${first}, ` +
           `which replica ${author} had seen; ${other}.${first} must arrive first or in the same update: ` +
           "perhaps it was lost, or only the call for it is missing" +
           (seen && other === author ? MORE_CHANGES : ""))
+        const key = `${replica} ${author}`
+        if (n >= (this.#open.get(key)?.n ?? 0)) this.#open.set(key, { replica, author, n, words: why.message })
+        throw why
       })
     }
     this.#room(replica, ends.size)
     for (const [author, n] of ends) this.#receipt(replica, author, n)
+    this.#close(replica)
+  }
+
+  // What was not causal at the replica, and has come since, is open no more.
+  #close(replica) {
+    for (const [key, one] of this.#open) {
+      if (one.replica === replica && one.n <= this.#replicas[replica].others[one.author]) this.#open.delete(key)
+    }
+  }
+
+  // What a function that records answers. If it is refused, that is remembered: what it says is not recorded. At a limit the session ends
+  // and the caller knows it; and of what is not causal is known whether it comes later.
+  #noting(record) {
+    try {
+      return record()
+    } catch (why) {
+      if (!(why instanceof Refused) || why instanceof Full || why instanceof NotCausal) throw why
+      this.#firstRefused ||= why.message
+      this.#refused += 1
+      throw why
+    }
+  }
+
+  // That calls were refused, a line each, if what they say was not recorded later.
+  #refusals() {
+    const [open] = [...this.#open.values()].sort((a, b) => a.replica - b.replica || a.author - b.author), calls = this.#refused
+    return [
+      ...(calls === 1 ? [`a call was refused, so what it says is not recorded: ${this.#firstRefused}`] : []),
+      ...(calls > 1 ? [`${calls} calls were refused, so what they say is not recorded; the first: ${this.#firstRefused}`] : []),
+      ...(open ? [`a call was refused, and what it says never came: ${open.words}`] : []),
+    ]
   }
 
   // Writes a receipt that may be written.

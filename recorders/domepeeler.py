@@ -110,7 +110,7 @@ def _records(call: Call) -> Call:
         __tracebackhide__ = True  # so that the debugger of pytest stops in the caller
         with recording._lock:
             wrong = recording._stopped
-            answer = None if wrong else call(recording, *given, **named)
+            answer = None if wrong else recording._noting(call, *given, **named)
         if wrong:
             raise NotAccepted(wrong)
         return answer
@@ -128,7 +128,7 @@ def _answers(call: Call) -> Call:
             if recording._stopped:
                 why = NotAccepted(recording._stopped)
             else:
-                answer = call(recording, *given, **named)
+                answer = recording._noting(call, *given, **named)
                 why = recording._wrong() if recording._stop else None
         if why is not None:
             raise why
@@ -172,6 +172,10 @@ class Recording:
         self._changes: Dict[Hashable, List[Tuple[int, int]]] = {}  # by the id of a change: its operations
         self._notes: List[str] = []
         self._delivered: List[Tuple[int, int]] = []  # of each call of `delivered`, the first and the last line of the trace that it wrote
+        self._refused = 0  # how many calls that record were refused, but at a limit, and but for those that were not causal
+        self._first_refused = ""  # the words of the first of them
+        self._open: Dict[Tuple[int, int], Tuple[int, str]] = {}  # by replica and author the last change that was not causal there, if it has
+        # not come since, and why it was not
         self._stop, self._weak = stop, weak
         self._stopped = ""  # what is wrong with the session, in words
         if only is not None:
@@ -233,6 +237,7 @@ class Recording:
             raise Refused(f"{author}.{n} cannot have arrived: replica {author} has {have} operations so far")
         self._room(replica)
         self._receipt(replica, author, n)
+        self._close(replica)
 
     @_records
     def received_clock(self, replica: int, author: int, clock: Clock, changes: int = 1) -> None:
@@ -288,6 +293,7 @@ class Recording:
             self._back_to(before)
             raise
         self._delivered.append((before[0] + 1, len(self._lines)))
+        self._open = {at: (MOST_POSITION + 1, words) for at, (_, words) in self._open.items()}  # it stays so: none of these receipts brought it
 
     @_alone
     def note(self, text: str) -> None:
@@ -333,7 +339,7 @@ class Recording:
                 file.write(text)
             return
         marks = ["language python", *(f"note {note}" for note in self._notes), *(f"delivered {first} {last}" for first, last in self._delivered),
-                 *(["log"] if self._has_log else [])]
+                 *(["log"] if self._has_log else []), *(f"refused {_printable(told)}" for told in self._refusals())]
         beside = [str(len(self._lines)), *marks, *(f"{line} {places}" for line, places in self._places())]
         if not os.path.isdir(os.path.dirname(os.path.realpath(name))):
             raise FileNotFoundError(errno.ENOENT, os.strerror(errno.ENOENT), name)
@@ -347,17 +353,19 @@ class Recording:
 
     @_alone
     def warnings(self) -> List[str]:
-        """What an accepted verdict on this recording may hide: that replicas end differently, say, or that nothing was recorded."""
+        """What an accepted verdict on this recording may hide: that a call was refused, say, that replicas end differently, or that nothing
+        was recorded."""
         if self._only is not None:
             raise Refused(ONE_LOG)
-        return [self._with_nearest(told) for told in _hidden(self._lines)]
+        return self._refusals() + [self._with_nearest(told) for told in _hidden(self._lines)]
 
     @_alone
     def judge(self, program: Optional[Words] = None, weak: bool = False) -> Dict[str, Any]:
         """The program's report on this recording, and as `warnings` what it may hide where it says `accepted`; with `weak`, where weak
-        holds. The program is the words that are given, that of $DOMEPEELER, or `domepeeler`."""
+        holds; and of any whether calls were refused. The program is the words that are given, that of $DOMEPEELER, or `domepeeler`."""
         report = self._report(program)
-        report["warnings"] = self.warnings() if report["verdict"] == "accepted" or (weak and report.get("weak") is True) else []
+        is_passing = report["verdict"] == "accepted" or (weak and report.get("weak") is True)
+        report["warnings"] = self.warnings() if is_passing else self._refusals()
         return report
 
     def _report(self, program: Optional[Words] = None) -> Dict[str, Any]:
@@ -390,9 +398,10 @@ class Recording:
         """What the report means, in words, with the lines of your code or log, the ids of the numbered names, and your notes.
         With `weak`, where the weak list specification alone is asked for. The tool is the words that are given, that of
         $DOMEPEELER_EXPLAIN, or `domepeeler-explain`, beside the program of $DOMEPEELER or on the PATH."""
-        delivered = [word for first, last in self._delivered[-MOST_DELIVERED:] for word in ("--delivered", f"{first}-{last}")]
+        told_of = [word for first, last in self._delivered[-MOST_DELIVERED:] for word in ("--delivered", f"{first}-{last}")]
+        told_of += [word for told in self._refusals() for word in ("--refused", told)]
         name, done = self._ask(explainer, "DOMEPEELER_EXPLAIN", _beside_program("domepeeler-explain"), "the tool's",
-                               [*(["--weak"] if weak else []), "--language", "python", *delivered, "-"])
+                               [*(["--weak"] if weak else []), "--language", "python", *told_of, "-"])
         if done.returncode not in (0, 1) or not done.stdout:
             _ended(name, done, "words")
         said = done.stdout.decode(errors="replace")
@@ -623,13 +632,43 @@ class Recording:
             for other, first in enumerate(lacking):
                 last = max(n - 1 if other == author else past[other], seen[other] if seen else 0)
                 if first and first <= last:
-                    raise NotCausal(f"not causal: {author}.{n} was applied at replica {replica} before {other}.{first}, "
+                    why = NotCausal(f"not causal: {author}.{n} was applied at replica {replica} before {other}.{first}, "
                                     f"which replica {author} had seen; {other}.{first} must arrive first or in the same update: "
                                     "perhaps it was lost, or only the call for it is missing" + (MORE_CHANGES if seen and other == author else ""))
+                    self._open[replica, author] = max((n, str(why)), self._open.get((replica, author), (0, "")))
+                    raise why
             ends[author] = n
         self._room(replica, len(ends))
         for author, n in ends.items():
             self._receipt(replica, author, n)
+        self._close(replica)
+
+    def _close(self, replica: int) -> None:
+        """What was not causal at the replica, and has come since, is open no more."""
+        for author, have in enumerate(self._replicas[replica].others):
+            if self._open.get((replica, author), (have + 1, ""))[0] <= have:
+                del self._open[replica, author]
+
+    def _noting(self, call: Call, *given: Any, **named: Any) -> Any:
+        """What a call that records answers. If it is refused, that is remembered: what it says is not recorded. At a limit the session ends
+        and the caller knows it; and of what is not causal is known whether it comes later."""
+        try:
+            return call(self, *given, **named)
+        except (Full, NotCausal):
+            raise
+        except Refused as why:
+            self._first_refused = self._first_refused or str(why)
+            self._refused += 1
+            raise
+
+    def _refusals(self) -> List[str]:
+        """That calls were refused, a line each, if what they say was not recorded later."""
+        told = [f"a call was refused, and what it says never came: {words}" for _, (_, words) in sorted(self._open.items())[:1]]
+        if self._refused == 1:
+            return [f"a call was refused, so what it says is not recorded: {self._first_refused}", *told]
+        if self._refused:
+            return [f"{self._refused} calls were refused, so what they say is not recorded; the first: {self._first_refused}", *told]
+        return told
 
     def _first_lacking(self, other: int, have: int, carried: Set[Tuple[int, int]]) -> int:
         """The first of the other's changes that is neither among so many operations of it nor carried; 0 if there is none."""
@@ -683,7 +722,11 @@ def _is_yours(file: str) -> bool:
 def _place(file: str, line: int, here: str) -> str:
     """A line of code, with the file's path from the current folder if it lies below that."""
     path = file[len(here):] if here and file.startswith(here) else file
-    return "".join(letter if letter.isprintable() else "?" for letter in path) + f":{line}"
+    return _printable(path) + f":{line}"
+
+
+def _printable(text: str) -> str:
+    return "".join(letter if letter.isprintable() else "?" for letter in text)
 
 
 def _put(path: str, content: bytes) -> None:

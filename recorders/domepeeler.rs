@@ -38,7 +38,7 @@
 #![allow(dead_code)]
 
 use std::cell::Cell;
-use std::collections::{BTreeSet, HashMap, HashSet};
+use std::collections::{BTreeMap, BTreeSet, HashMap, HashSet};
 use std::ffi::OsString;
 use std::fmt::{self, Display, Write as _};
 use std::fs::{self, File};
@@ -285,6 +285,40 @@ struct Names {
     order: Vec<String>,
 }
 
+/// Which calls that record were refused, but at a limit, where the session ends and the caller knows it: what they say is not recorded.
+#[derive(Clone, Default)]
+struct Refusals {
+    /// How many they are, but for what was not causal; and the first of them.
+    calls: usize,
+    first: Option<Refused>,
+    /// By replica and author the last change that was not causal there, if it has not come since, and why it was not.
+    open: BTreeMap<(usize, usize), (u32, Refused)>,
+}
+
+impl Refusals {
+    fn note(&mut self, why: &Refused) {
+        if let Refused::NotCausal { replica, change: (author, n), .. } = *why {
+            let open = self.open.entry((replica, author)).or_insert((0, why.clone()));
+            if n >= open.0 {
+                *open = (n, why.clone());
+            }
+        } else if !why.is_full() {
+            self.calls += 1;
+            self.first.get_or_insert_with(|| why.clone());
+        }
+    }
+
+    /// That there are some, a line each.
+    fn told(&self) -> Vec<String> {
+        let first = self.first.iter().map(|why| match self.calls {
+            1 => format!("a call was refused, so what it says is not recorded: {why}"),
+            calls => format!("{calls} calls were refused, so what they say is not recorded; the first: {why}"),
+        });
+        let open = self.open.values().take(1).map(|(_, why)| format!("a call was refused, and what it says never came: {why}"));
+        first.chain(open).collect()
+    }
+}
+
 /// How many lines the text had when it was last saved, and when a panic last told the verdict and the path; 0 where that never was.
 #[derive(Default)]
 struct Seen {
@@ -316,6 +350,7 @@ pub struct Recording {
     notes: Vec<String>,
     /// Of each call of `delivered` the first and the last line of the trace that it wrote.
     deliveries: Vec<(usize, usize)>,
+    refusals: Refusals,
     /// What the session must be after each call that takes a list, where that is asked for.
     goal: Option<Goal>,
     /// What is wrong with it, once it isn't so.
@@ -358,9 +393,9 @@ impl Recording {
         let callers = Vec::new();
         let names = Names::default();
         let replicas = vec![new; replicas];
-        let (notes, deliveries, seen) = (vec![], vec![], Seen::default());
+        let (notes, deliveries, refusals, seen) = (vec![], vec![], Refusals::default(), Seen::default());
         let _ = SAVED.try_with(|saved| saved.set(0));
-        Ok(Recording { lines, callers, replicas, only: None, names, notes, deliveries, goal: None, stopped: None, seen })
+        Ok(Recording { lines, callers, replicas, only: None, names, notes, deliveries, refusals, goal: None, stopped: None, seen })
     }
 
     /// From now on the session is judged after each call that takes a list. The first after which it is not accepted panics, with the
@@ -435,6 +470,12 @@ impl Recording {
     #[track_caller]
     pub fn received(&mut self, replica: usize, author: usize, n: u32) -> Result<(), Refused> {
         self.go_on();
+        let done = self.received_now(replica, author, n);
+        self.arrived(replica, done)
+    }
+
+    #[track_caller]
+    fn received_now(&mut self, replica: usize, author: usize, n: u32) -> Result<(), Refused> {
         self.acts(replica)?;
         self.known(author)?;
         if n == 0 {
@@ -464,6 +505,12 @@ impl Recording {
         changes: u32,
     ) -> Result<(), Refused> {
         self.go_on();
+        let done = self.received_clock_now(replica, author, clock, changes);
+        self.arrived(replica, done)
+    }
+
+    #[track_caller]
+    fn received_clock_now(&mut self, replica: usize, author: usize, clock: &[u32], changes: u32) -> Result<(), Refused> {
         self.acts(replica)?;
         self.known(author)?;
         if author == replica {
@@ -496,6 +543,14 @@ impl Recording {
     #[track_caller]
     pub fn delivered<L: AsRef<[N]>, N: AsRef<str>>(&mut self, lists: &[L]) -> Result<(), Refused> {
         self.go_on();
+        let done = self.delivered_now(lists);
+        self.noted(done)?;
+        self.check_answer();
+        Ok(())
+    }
+
+    #[track_caller]
+    fn delivered_now<L: AsRef<[N]>, N: AsRef<str>>(&mut self, lists: &[L]) -> Result<(), Refused> {
         if self.only.is_some() {
             return Err(Refused::Others);
         }
@@ -511,7 +566,7 @@ impl Recording {
             }
         }
         self.deliveries.push((before.entries + HEAD_LINES + 1, self.lines()));
-        self.check_answer();
+        self.refusals.open.values_mut().for_each(|open| open.0 = u32::MAX); // it stays so: none of these receipts brought it
         Ok(())
     }
 
@@ -584,17 +639,17 @@ impl Recording {
         Err(io::Error::new(io::ErrorKind::AlreadyExists, "another process saves there too"))
     }
 
-    /// What an accepted verdict on this recording may hide, a line each, with the places in your code: a change that never arrived,
-    /// a replica that shows nothing, a delete of what nothing inserts. It asks no program, and takes time linear in the text.
+    /// What an accepted verdict on this recording may hide, a line each, with the places in your code: that a call was refused, a change that
+    /// never arrived, a replica that shows nothing, a delete of what nothing inserts. It asks no program, and takes time linear in the text.
     pub fn warnings(&self) -> Result<Vec<String>, String> {
         if self.only.is_some() {
             return Err(ONE_LOG.to_string());
         }
-        Ok(Warned::of(self).all())
+        Ok([self.refusals.told(), Warned::of(self).all()].concat())
     }
 
     /// The program's report on this recording, as JSON. It has one more key, `warnings`: where the verdict is accepted a list of what
-    /// that may hide, and else an empty one. The program is that of $DOMEPEELER, or `domepeeler`.
+    /// that may hide, and else whether calls were refused. The program is that of $DOMEPEELER, or `domepeeler`.
     pub fn judge(&self) -> Result<String, String> {
         self.judge_by(&named("DOMEPEELER", "domepeeler"))
     }
@@ -610,7 +665,7 @@ impl Recording {
         let end = end.ok_or_else(|| format!("{program} printed a report without a verdict"))?;
         let is_accepted = report.contains("\"verdict\":\"accepted\"");
         self.check_agrees(program, &done, is_accepted, &report, "\"operations\":", ",")?;
-        let warnings = if is_accepted { self.warnings()? } else { vec![] };
+        let warnings = if is_accepted { self.warnings()? } else { self.refusals.told() };
         let told: Vec<String> = warnings.iter().map(|warning| quoted(warning)).collect();
         report.insert_str(end, &format!(",\"warnings\":[{}]", told.join(",")));
         Ok(report)
@@ -758,6 +813,8 @@ impl Recording {
         let ranges: Vec<String> = last.iter().map(|(from, to)| format!("{from}-{to}")).collect();
         let mut words = [goal, &["--language", LANGUAGE]].concat();
         words.extend(ranges.iter().flat_map(|range| ["--delivered", range]));
+        let refusals = self.refusals.told();
+        words.extend(refusals.iter().flat_map(|told| ["--refused", told]));
         words.push("-");
         let done = self.ask(explainer, &words, "DOMEPEELER_EXPLAIN to the tool's path", "no words")?;
         if done.stdout.is_empty() {
@@ -818,8 +875,9 @@ impl Recording {
     fn beside(&self) -> String {
         let notes: String = self.notes.iter().map(|note| format!("note {note}\n")).collect();
         let deliveries: String = self.deliveries.iter().map(|(from, to)| format!("delivered {from} {to}\n")).collect();
+        let refusals: String = self.refusals.told().iter().map(|told| format!("refused {told}\n")).collect();
         let places: String = self.places().map(|(line, place)| format!("{line} {place}\n")).collect();
-        format!("{}\nlanguage {LANGUAGE}\n{notes}{deliveries}{places}", self.lines())
+        format!("{}\nlanguage {LANGUAGE}\n{notes}{deliveries}{refusals}{places}", self.lines())
     }
 
     /// How a program ended, by itself and with a status that says that it has answered, which is else lacking.
@@ -929,7 +987,23 @@ impl Recording {
         if done.is_err() {
             self.names.forget(before);
         }
+        self.noted(done)
+    }
+
+    /// What a call answers that records. If it is refused, that is remembered.
+    fn noted<T>(&mut self, done: Result<T, Refused>) -> Result<T, Refused> {
+        if let Err(why) = &done {
+            self.refusals.note(why);
+        }
         done
+    }
+
+    /// The same of a call that says what has arrived at a replica. What was not causal there, and has come by now, is open no more.
+    fn arrived(&mut self, replica: usize, done: Result<(), Refused>) -> Result<(), Refused> {
+        if let (Ok(()), Some(own)) = (&done, self.replicas.get(replica)) {
+            self.refusals.open.retain(|&(at, author), (n, _)| at != replica || *n > own.others[author]);
+        }
+        self.noted(done)
     }
 
     #[track_caller]

@@ -36,6 +36,7 @@ from pathlib import Path
 
 SIDE = ".lines"  # the end of the name of a file beside a log or a trace
 NOTE = re.compile(br"note .+")  # a line there: a word of the user's for the whole session
+REFUSED = re.compile(br"refused .+")  # that calls were refused, which are not in the log
 LOG_MARK = b"log"  # a line there: the places are lines of a log, not of code
 MERGED_MARK = b"merged"  # a line there: the trace was no recorder's text
 COUNT = re.compile(br"[0-9]{1,7}")
@@ -44,6 +45,7 @@ HEAD = 2  # lines of a text before its entries
 MOST_BYTES = 1 << 27  # of a log, or of what stands beside one
 MOST_SHOWN = 120  # letters of a line
 MOST_NOTES = 20  # as many as a recording takes
+MOST_REFUSED = 20  # lines that are taken
 MOST_TRIES = 100  # of writing where another process writes too
 ABSENT = errno.ENOENT, errno.ENAMETOOLONG  # what stands beside a log is not there
 RECEIPT = "recv [0-9]{1,7} [0-9]{1,7}"
@@ -163,11 +165,13 @@ class Log:
 
 
 def beside_trace(logs, lines):
-    """What is to stand beside the trace: how many lines there should be, the notes of all logs, and from where the lines were recorded."""
+    """What is to stand beside the trace: how many lines there should be, the notes of all logs, which calls were refused, and from where the lines were
+    recorded."""
     places = [log.places() for log in logs]
     found = [(number, places[log].get(b"%d" % at)) for number, (_, log, at) in enumerate(lines, 1)]
     notes = list(dict.fromkeys(line for log in logs for line in log.beside if NOTE.fullmatch(line)))[:MOST_NOTES]
-    marks = notes + [MERGED_MARK] + [LOG_MARK] * any(LOG_MARK in log.beside for log in logs)
+    refused = [line for log in logs for line in log.beside if REFUSED.fullmatch(line)][:MOST_REFUSED]
+    marks = notes + [MERGED_MARK] + [LOG_MARK] * any(LOG_MARK in log.beside for log in logs) + refused
     told = [b"%d %b" % one for one in found if one[0] > HEAD and one[1]]
     return b"".join(line + b"\n" for line in [b"%d" % (len(lines) + sum(log.lost() for log in logs))] + marks + told)
 

@@ -641,6 +641,73 @@ def known_as_cut(tally: Tally, program: str, folder: str) -> None:
                 and said[2:] == [f"{first}/aa.trace: finder: line 3: shape"], got)
 
 
+# A test that goes on after a change was refused, as its editor applied it too early: the session that is left is accepted; and so it is said.
+UNCAUSAL = """
+import sys
+sys.path.insert(0, sys.argv[1])
+from domepeeler import NotCausal, Recording
+recording = Recording(2)
+recording.insert(1, "a", 0, ["a"])
+recording.insert(1, "b", 1, ["a", "b"])
+try:
+    recording.received_clock(0, 1, [0, 2])
+except NotCausal:
+    pass
+recording.read(0, {shown})
+recording.save(sys.argv[2])
+print(*recording.judge([sys.argv[3]])["warnings"], sep="\\n")
+"""
+NEVER_CAME = ("a call was refused, and what it says never came: not causal: 1.2 was applied at replica 0 before 1.1, which replica 1 had seen; 1.1 "
+              "must arrive first or in the same update: perhaps it was lost, or only the call for it is missing; if the update carried more than "
+              "one change, say how many (`changes`)")
+
+
+def refused_calls(tally: Tally, program: str, folder: str) -> None:
+    """A session of which a call was refused is no pass, since what it says was not judged: status 2, an error in JUnit's file, also where weak
+    holds; where it is wrong itself its verdict stands, with a warning. `explain` and the page say it, and so does what merge.py writes."""
+    for name, shown in ("zz", "[]"), ("bad", "['b']"):
+        path = f"{folder}/{name}.trace"
+        done = run(sys.executable, ["-c", UNCAUSAL.format(shown=shown), str(ROOT / "recorders"), path, program])
+        tally.check(f"refused calls: the recorder warns too, {name}", done.status == 0 and done.out.decode().splitlines()[0] == NEVER_CAME, done)
+    write(folder, {"fine.trace": "0 ins a 0 : a"})
+    junit, error = f"{folder}/junit.xml", f"{NEVER_CAME}; the verdict on the lines that were recorded is `accepted`"
+    for goal in [], ["--weak"]:
+        got = judge(program, [*goal, "--junit", junit, folder])
+        lines, rows = got.err.decode().splitlines(), {row[0]: row[1] for row in map(cells, got.out.decode().splitlines()) if len(row) > 1}
+        tally.check(f"refused calls: status 2, and failed {goal}", got.status == 2 and got.out.endswith(b"\n3 traces: 1 accepted, 1 contents, 1 failed\n") and
+                    rows[f"{folder}/zz.trace"] == "failed" and rows[f"{folder}/bad.trace"] == "contents" and
+                    lines[0] == f"domepeeler-judge-many: {folder}/zz.trace: {error}", got)
+        tally.check(f"refused calls: what is wrong by itself is warned of {goal}",
+                    f"domepeeler-judge-many: {folder}/bad.trace: warning: {NEVER_CAME}" in lines, lines)
+        cases = {case.get("name"): case for case in xml.parse(junit).getroot().iter("testcase")}
+        told = cases["zz.trace"].find("error")
+        tally.check(f"refused calls: an error in JUnit's file {goal}", told is not None and told.get("type") == "failed" and told.text == error and
+                    cases["bad.trace"].find("failure") is not None and len(cases["fine.trace"]) == 0, told)
+    row = json.loads(judge(program, ["--json", f"{folder}/zz.trace"]).out)
+    tally.check("refused calls: its object", row["verdict"] == "failed" and row["error"] == error and NEVER_CAME in row["warnings"], row)
+    page = f"{folder}/page.html"
+    got = run(EXPLAIN, ["--program", program, "--html", page, f"{folder}/zz.trace"])
+    said = got.out.decode()
+    tally.check("refused calls: explain", got.status == 0 and said.startswith("accepted, with ") and f"\nWhat this verdict may hide\n  {NEVER_CAME}\n" in said, got)
+    tally.check("refused calls: the page", "what it says never came" in Path(page).read_text())
+    said = run(EXPLAIN, ["--program", program, f"{folder}/bad.trace"]).out.decode()
+    tally.check("refused calls: explain, of what is wrong by itself", said.startswith("contents 0.1: ") and
+                f"\nWhat this verdict may hide\n  {NEVER_CAME}\n" in said, said)
+    told = ["a call was refused", "::error::\x1b"]
+    got = run(EXPLAIN, ["--program", program, *(word for one in told for word in ("--refused", one)), f"{folder}/fine.trace"])
+    tally.check("refused calls: explain, as a recorder tells it", got.status == 0 and
+                b"\nWhat this verdict may hide\n  a call was refused\n  \\x3a:error::\\x1b\n" in got.out, got)
+    for log, entries in ("0", "0 ins a 0 : a"), ("1", "1 read :"):
+        write(folder, {f"logs/{log}.log": entries})
+        Path(folder, "logs", f"{log}.log").write_text(f"trace 1\nreplicas 2\n{entries}\n")
+        Path(folder, "logs", f"{log}.log.lines").write_text(f"3\nrefused a call was refused, so what it says is not recorded: log {log}\n")
+    merged = f"{folder}/merged.trace"
+    done = run(sys.executable, [str(ROOT / "recorders" / "merge.py"), "--output", merged, f"{folder}/logs/0.log", f"{folder}/logs/1.log"])
+    got = judge(program, [merged])
+    tally.check("refused calls: of logs that are merged", done.status == 0 and got.status == 2 and
+                b": a call was refused, so what it says is not recorded: log 0; the verdict on the lines that were recorded is `accepted`\n" in got.err, got)
+
+
 def grouped(tally: Tally, program: str, folder: str) -> None:
     """Failures with one verdict, cause and line of code are one row of the table, and the script of CI tells the first whole and of others
     a line; JSON and JUnit have each."""
@@ -1504,6 +1571,17 @@ def script_of_ci(tally: Tally, program: str, folder: str) -> None:
                 "\ncontents 0.1: " if left else "\naccepted, ") in done.stdout, done)
 
 
+    done = run(sys.executable, ["-c", UNCAUSAL.format(shown="[]"), str(ROOT / "recorders"), f"{place}/uncausal.trace", "true"])
+    os.makedirs(f"{place}/early")
+    for name in "uncausal.trace", "uncausal.trace.lines":
+        os.replace(f"{place}/{name}", f"{place}/early/{name}")
+    done = in_ci(str(place), path, f"{script} early", {"GITHUB_ACTIONS": "true"})
+    told = f"{NEVER_CAME}; the verdict on the lines that were recorded is `accepted`"
+    tally.check("script of CI: a session of which a call was refused", done.returncode == 2 and done.stdout.startswith(
+        f"::error file=early/uncausal.trace,title=early/uncausal.trace%3A failed::{told}\nearly/uncausal.trace: {told}\n") and
+        "all recordings are accepted" not in done.stdout, done)
+
+
 def script_ended(tally: Tally, place: str, path: str, script: str, folder: str) -> None:
     """A signal ends the script, and what judges for it; where it can't say what came out, it does not end as if the editor had failed,
     or had not."""
@@ -1814,7 +1892,7 @@ def main() -> None:
         warnings(tally, program, folder)
         warnings_of_sessions(tally, program, other)
     for check in (pythons, little_memory, not_looked_at, changing, told_of_what_was_judged, explained_once, weak, weak_junit, weak_in_ci,
-                  known_as_cut, grouped, no_entries, no_files, overwriting, millions_of_names, odd_names, one_way_to_show, odd_words, names_like_commands, tasks, script_of_ci,
+                  known_as_cut, refused_calls, grouped, no_entries, no_files, overwriting, millions_of_names, odd_names, one_way_to_show, odd_words, names_like_commands, tasks, script_of_ci,
                   big_traces, time_of_small, time_of_big, long_cycles):
         with tempfile.TemporaryDirectory() as folder:
             check(tally, program, folder)

@@ -670,18 +670,24 @@ def check_lines(tally: Tally, recorder: Recorder, folder: Path) -> None:
     tally.check(f"{recorder.language}: and nothing is left of it", left == ["full.trace", "full.trace.lines"] or
                 got[1].startswith("ended with -"), (got, left))
     check_ranges(tally, recorder, place / "ranges.trace")
+    check_refusals(tally, recorder, place / "refusals")
     check_replaced(tally, recorder, place / "replaced")
 
 
-# Calls, which lines of the trace `delivered` wrote in each of its calls, and how many lines there are.
+# Calls, which lines of the trace `delivered` wrote in each of its calls, how many lines there are, and what is told of refused calls.
+CALL_REFUSED = "a call was refused, so what it says is not recorded: "
+CALLS_REFUSED = "calls were refused, so what they say is not recorded; the first: "
+NEVER_CAME = "a call was refused, and what it says never came: "
+ONE_LIST = "delivered takes one list for each of the 2 replicas, not 1"
 TWO_DELIVERIES = ["new 2", "insert 0 a 0 a", "delivered a / a", "note seed%2017", "delivered a", "read 0 a", "delivered a / a:b",
                   "delivered a / a"]
-RANGES = [("of two calls, and none of one that is refused", TWO_DELIVERIES, [(4, 6), (8, 9)], 9),
-          ("of a call where nothing was recorded", ["new 3", "delivered / /"], [(3, 5)], 5),
-          ("of 102 calls", ["new 1", "read 0", *["delivered"] * 102], [(line, line) for line in range(4, 106)], 105),
-          ("where there is no such call", ["new 2", "insert 0 a 0 a", "received 1 0 1", "read 1 a"], [], 5),
-          ("where each is refused", ["new 2", "read 0", "delivered", "delivered a:b /", "delivered / / /"], [], 3),
-          ("in one replica's log", ["new 2 1", "read 1", "delivered /"], [], 3)]
+RANGES = [("of two calls, and none of one that is refused", TWO_DELIVERIES, [(4, 6), (8, 9)], 9, [f"2 {CALLS_REFUSED}{ONE_LIST}"]),
+          ("of a call where nothing was recorded", ["new 3", "delivered / /"], [(3, 5)], 5, []),
+          ("of 102 calls", ["new 1", "read 0", *["delivered"] * 102], [(line, line) for line in range(4, 106)], 105, []),
+          ("where there is no such call", ["new 2", "insert 0 a 0 a", "received 1 0 1", "read 1 a"], [], 5, []),
+          ("where each is refused", ["new 2", "read 0", "delivered", "delivered a:b /", "delivered / / /"], [], 3, [f"3 {CALLS_REFUSED}{ONE_LIST}"]),
+          ("in one replica's log", ["new 2 1", "read 1", "delivered /"], [], 3,
+           [f"{CALL_REFUSED}one replica's log can't say that everything has arrived: the others are recorded elsewhere"])]
 
 
 def check_ranges(tally: Tally, recorder: Recorder, trace: Path) -> None:
@@ -691,16 +697,61 @@ def check_ranges(tally: Tally, recorder: Recorder, trace: Path) -> None:
     teller.write_text("#!/bin/sh\ncat > /dev/null\necho \"asked: $*\"\n")
     teller.chmod(0o755)
     language = LANGUAGES[recorder.language]
-    for name, calls, ranges, count in RANGES:
+    for name, calls, ranges, count, refused in RANGES:
         got = recorder.answers([*map(fields, calls), f"save\t{trace}", "explain"], DOMEPEELER_EXPLAIN=str(teller))
         lines = Path(f"{trace}.lines").read_text().splitlines()
         noted = ["note seed 17"] * ("note seed%2017" in calls)
-        head = [str(count), f"language {language}", *noted, *(f"delivered {first} {last}" for first, last in ranges)]
+        head = [str(count), f"language {language}", *noted, *(f"delivered {first} {last}" for first, last in ranges),
+                *(f"refused {told}" for told in refused)]
         tally.check(f"{recorder.language}: lines that delivered wrote, {name}", lines[:len(head)] == head and
                     all(line.split(" ")[0].isdigit() for line in lines[len(head):]), lines)
-        told = " ".join(["| asked: --language", language, *(f"--delivered {first}-{last}" for first, last in ranges[-100:]), "-"])
+        told = " ".join(["| asked: --language", language, *(f"--delivered {first}-{last}" for first, last in ranges[-100:]),
+                         *(f"--refused {told}" for told in refused), "-"])
         wanted = ONE_LOG if calls[0] == "new 2 1" else told
         tally.check(f"{recorder.language}: explain tells of them, {name}", any(line.endswith(wanted) for line in got[len(calls) + 1:]), got[-6:])
+
+
+# Of a session in which replica 1 inserts a and b, and replica 2 c: what else is called, and what is told of refused calls.
+TWO_AUTHORS = ["new 3", "insert 1 a 0 a", "insert 1 b 1 a b", "insert 2 c 0 c"]
+SECOND_FIRST, FIRST = "received_clock 0 1 1 0 2 0", "received_clock 0 1 1 0 1 0"
+AT_0 = (f"{NEVER_CAME}not causal: 1.2 was applied at replica 0 before 1.1, which replica 1 had seen; 1.1 must arrive first or in the same "
+        "update: perhaps it was lost, or only the call for it is missing; if the update carried more than one change, say how many "
+        "(`changes`)")
+AT_2 = AT_0.replace("at replica 0", "at replica 2")
+NO_NAME = 'name "a:b" is not 1 to 32 of A-Z a-z 0-9 _ - .'
+REFUSALS = [("none", ["received 0 1 2"], []),
+            ("what is not causal, and never came", [SECOND_FIRST, "received 0 2 1"], [AT_0]),
+            ("what came then", [SECOND_FIRST, FIRST, SECOND_FIRST], []),
+            ("what came with its author's next", [SECOND_FIRST, "insert 1 d 2 a b d", "received 0 1 3"], []),
+            ("what came through another", [SECOND_FIRST, "received 2 1 2", "read 2 a b c", "received 0 2 2"], []),
+            ("whose first one came alone", [SECOND_FIRST, FIRST], [AT_0]),
+            ("of two replicas, of which one got it", [SECOND_FIRST, SECOND_FIRST.replace("0 1 1", "2 1 1"), "received 0 1 2"], [AT_2]),
+            ("of two replicas", [SECOND_FIRST.replace("0 1 1", "2 1 1"), SECOND_FIRST], [AT_0]),
+            ("what delivered writes of", [SECOND_FIRST, "delivered a b c / a b c / a b c"], [AT_0]),
+            ("what delivered writes of, and comes again", [SECOND_FIRST, "delivered a b c / a b c / a b c", "received 0 1 2"], [AT_0]),
+            ("one that no trace can say", ["read 0 a:b", "received 0 1 2"], [CALL_REFUSED + NO_NAME]),
+            ("several", ["read 0 a:b", "received 0 0 1", SECOND_FIRST], [f"2 {CALLS_REFUSED}{NO_NAME}", AT_0]),
+            ("of calls that record nothing", ["note a%0Ab", "clock 9"], []),
+            ("at a limit", [f"read 0 {' '.join(ELEMENTS)}"], [])]
+
+
+def check_refusals(tally: Tally, recorder: Recorder, place: Path) -> None:
+    """That calls were refused, and what they say was not recorded later, stands beside what is saved, and in the warnings, first; and the
+    explainer is told it."""
+    place.mkdir()
+    trace, teller = place / "refusals.trace", place / "teller"
+    teller.write_text("#!/bin/sh\ncat > /dev/null\nfor word do echo \"asked: $word\"; done\n")
+    teller.chmod(0o755)
+    for name, calls, wanted in REFUSALS:
+        calls = [*TWO_AUTHORS, *calls]
+        got = recorder.answers([*map(fields, calls), f"save\t{trace}", "warnings", "explain"], DOMEPEELER_EXPLAIN=str(teller))[len(calls) + 1:]
+        beside = [line for line in Path(f"{trace}.lines").read_text().splitlines() if line.startswith("refused ")]
+        tally.check(f"{recorder.language}: refused calls, {name}: beside the trace", beside == [f"refused {told}" for told in wanted], beside)
+        warned = [line for line in got[:got.index("ok")] if "refused" in line]
+        tally.check(f"{recorder.language}: refused calls, {name}: warnings", warned == [f"| {told}" for told in wanted] == got[:len(wanted)], got)
+        asked = [line.partition("asked: ")[2] for line in got[got.index("ok"):] if "asked: " in line]
+        tally.check(f"{recorder.language}: refused calls, {name}: what the explainer is told", asked[-1] == "-" and
+                    asked[2:-1] == [word for told in wanted for word in ("--refused", told)] or "delivered" in name, asked)
 
 
 def check_replaced(tally: Tally, recorder: Recorder, place: Path) -> None:

@@ -41,6 +41,8 @@ def words_asked() -> argparse.Namespace:
                         f"by default as TRACE{SIDE} says, else {USUAL}")
     parser.add_argument("--delivered", metavar="FROM-TO", action="append", default=[], type=lines_from, help="lines of the trace that a "
                         f"recorder's `delivered` wrote; by default as TRACE{SIDE} says")
+    parser.add_argument("--refused", metavar="WORDS", action="append", default=[], help="what a recorder says of calls that it refused, which "
+                        f"are not in the trace; by default as TRACE{SIDE} says")
     parser.add_argument("--weak", action="store_true", help="the editor promises the weak list specification alone, as one with a server "
                         "that orders (Jupiter): a trace passes where that holds, though strong doesn't")
     add_version(parser, NAME)
@@ -137,7 +139,8 @@ def explain(asked: argparse.Namespace, program: str, trace: bytes, side: Side, j
     evidence = Evidence(Recording(trace.decode(), tuple(asked.delivered) or known.delivered), judged.report)
     words, told = explained(evidence, report_of(program), asked.language or known.language or USUAL, asked.weak)
     is_alone = asked.weak and is_weak_alone(judged.report)
-    warnings = placed_warnings(warnings_of(judged.report["verdict"], trace, side, is_alone).all, known)
+    refused = tuple(map(shown, asked.refused)) or known.refused
+    warnings = placed_warnings(warnings_of(judged.report["verdict"], trace, side, is_alone, refused).all, known)
     words = with_places(with_warnings(words, warnings), known)
     print(text_of(words), end="")
     if asked.html:

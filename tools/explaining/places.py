@@ -3,9 +3,9 @@ the user's own notes.
 
 Its first line is how many lines the trace has. Behind it stands for each line of which that is known its number, a blank and the
 places. A line `language` and a word names the recorder's, and `note` and words are the user's. A line `delivered` and two numbers is a
-range of lines that the recorder's call of that name wrote. A line `log` says that the places are
-lines of a log, whatever its name, and a line `merged` that merge.py wrote the trace. What is written otherwise is passed over, and so is
-the file of another trace."""
+range of lines that the recorder's call of that name wrote, and `refused` and words say that calls were refused: what they say is not in
+the trace. A line `log` says that the places are lines of a log, whatever its name, and a line `merged` that merge.py wrote the trace. What
+is written otherwise is passed over, and so is the file of another trace."""
 from __future__ import annotations
 
 import re
@@ -21,9 +21,10 @@ PLACES = re.compile(rb"([1-9][0-9]{0,6}) (.{1,4000})")
 LANGUAGE = re.compile(rb"language ([a-z-]{1,20})")
 NOTE = re.compile(rb"note (.{1,800})")
 DELIVERED = re.compile(rb"delivered ([1-9][0-9]{0,6}) ([1-9][0-9]{0,6})")
+REFUSED = re.compile(rb"refused (.{1,4000})")
 OF_LOG = re.compile(r"[^,]*\.(log|txt|out|(nd)?jsonl?|[ct]sv|xml)(\.[0-9]+)?(:[0-9]+)?")  # one that was rotated too
 LOG_MARK, MERGED_MARK = b"log", b"merged"
-MOST_NOTES, MOST_DELIVERED = 20, 100
+MOST_NOTES, MOST_DELIVERED, MOST_REFUSED = 20, 100, 20
 CALLED = ", called from "  # between two places of one line
 SHOWN_LINE = re.compile(r"\(line (\d+)\)")  # in a warning
 
@@ -37,6 +38,7 @@ class Beside(NamedTuple):
     has_log: bool = False
     is_merged: bool = False
     delivered: tuple = ()  # ranges of lines that `delivered` wrote
+    refused: tuple = ()  # that calls were refused, in words
 
     def marks(self, lines: list) -> list:
         """What the file beside a part of the trace says too, a line each, where its entries come from these lines."""
@@ -47,7 +49,7 @@ class Beside(NamedTuple):
 
 def beside(trace: bytes, side: Side) -> Beside:
     """What is known of the trace by this file."""
-    places, language, notes, delivered, count = {}, "", [], [], trace.count(b"\n")
+    places, language, notes, delivered, refused, count = {}, "", [], [], [], trace.count(b"\n")
     lines = lines_beside(trace, side)
     for line in lines:
         said = PLACES.fullmatch(line)
@@ -58,9 +60,11 @@ def beside(trace: bytes, side: Side) -> Beside:
             language = language or said[1].decode()
         elif (said := DELIVERED.fullmatch(line)):
             delivered.append((int(said[1]), int(said[2])))
+        elif (said := REFUSED.fullmatch(line)) and len(refused) < MOST_REFUSED:
+            refused.append(shown(said[1].decode(errors="replace")))
         elif (said := NOTE.fullmatch(line)) and len(notes) < MOST_NOTES and (told := printable(said[1])):
             notes.append(told)
-    return Beside(places, language, tuple(notes), LOG_MARK in lines, MERGED_MARK in lines, tuple(delivered[-MOST_DELIVERED:]))
+    return Beside(places, language, tuple(notes), LOG_MARK in lines, MERGED_MARK in lines, tuple(delivered[-MOST_DELIVERED:]), tuple(refused))
 
 
 def printable(text: bytes) -> str:

@@ -86,7 +86,7 @@ def failed(file: str, seconds: float, status: int, error: str, lines: int = 0) -
 
 def row_of(request: Request, file: str, trace: bytes, side: Side, answer: Answer) -> Row:
     """The row of a trace that has this file beside it, of which the program answered this. One that is known to be cut is failed, whatever
-    its lines show."""
+    its lines show; and so is one that passes though a call was refused, since what that says was not judged."""
     seconds, status, printed, error = answer
     lines, report = trace.count(b"\n"), report_in(status, printed)
     if report is None and is_another(status, error):
@@ -102,7 +102,7 @@ def row_of(request: Request, file: str, trace: bytes, side: Side, answer: Answer
         return failed(file, seconds, status, of_another_trace(request.program), lines)
     known = beside(trace, side)
     is_alone = request.weak and is_weak_alone(report)
-    warnings = warned_of(report["verdict"], trace, side, is_alone)
+    warnings = warned_of(report["verdict"], trace, side, is_alone, known.refused)
     row = Row(file, report["verdict"], report.get("k"), lines, seconds, status, report, "",
               placed_warnings(warnings.all, known) or None, bool(warnings.ends) or None, list(known.notes) or None,
               weak_alone=is_alone or None)
@@ -111,6 +111,9 @@ def row_of(request: Request, file: str, trace: bytes, side: Side, answer: Answer
     if warnings.is_cut:
         left = "" if row.passes else f"; the verdict on the lines that are left is {verdict_of(report)}"
         return row._replace(verdict="failed", k=None, error=warnings.cut[0] + left, unequal=None, weak_alone=None)
+    if warnings.refused and row.passes:
+        return row._replace(verdict="failed", error=f"{warnings.refused[0]}; the verdict on the lines that were recorded is {verdict_of(report)}",
+                            unequal=None, weak_alone=None)
     return row if row.passes else placed(row, request, trace, known)
 
 
@@ -122,12 +125,12 @@ def fault_of(error: str, trace: bytes, file: str) -> list:
         return []
 
 
-def warned_of(verdict: str, trace: bytes, side: Side, is_passing: bool) -> Warnings:
-    """What the verdict may hide; nothing where the program lies, and it is no trace."""
+def warned_of(verdict: str, trace: bytes, side: Side, is_passing: bool, refused: tuple) -> Warnings:
+    """What the verdict may hide; of the lines nothing where the program lies, and it is no trace."""
     try:
-        return warnings_of(verdict, trace, side, is_passing)
+        return warnings_of(verdict, trace, side, is_passing, refused)
     except (ValueError, IndexError):
-        return Warnings([], [], [])
+        return Warnings([], [], [], list(refused))
 
 
 def placed(row: Row, request: Request, trace: bytes, known: Beside) -> Row:

@@ -20,11 +20,12 @@ NOTHING = "nothing was recorded"
 
 
 class Warnings(NamedTuple):
-    """What the verdict may hide, a line each: that the file lacks lines; how the replicas end; and all else."""
+    """What the verdict may hide, a line each: that the file lacks lines; that calls were refused; how the replicas end; and all else."""
 
     cut: list
     ends: list
     others: list
+    refused: list = []
 
     @property
     def is_cut(self) -> bool:
@@ -33,7 +34,7 @@ class Warnings(NamedTuple):
 
     @property
     def all(self) -> list:
-        return [*self.cut, *self.ends, *self.others]
+        return [*self.cut, *self.refused, *self.ends, *self.others]
 
 
 def is_first(warning: str) -> bool:
@@ -42,11 +43,12 @@ def is_first(warning: str) -> bool:
     return warning.startswith(NOTHING) or warning.endswith(UNKNOWN)
 
 
-def warnings_of(verdict: str, trace: bytes, side: Side = NO_SIDE, is_passing: bool = False) -> Warnings:
-    """What to warn of where the program has given this verdict on the trace that has this file beside it. A verdict other than accepted
-    hides nothing, but for what a cut has taken away, and where it passes since weak holds."""
+def warnings_of(verdict: str, trace: bytes, side: Side = NO_SIDE, is_passing: bool = False, refused: tuple = ()) -> Warnings:
+    """What to warn of where the program has given this verdict on the trace that has this file beside it, and a recorder has told of refused
+    calls. A verdict other than accepted hides nothing, but for what these say and what a cut has taken away, and where it passes since weak
+    holds."""
     ends, others = hidden(trace) if verdict == "accepted" or is_passing else ([], [])
-    return Warnings(cut(trace, side), ends, others)
+    return Warnings(cut(trace, side), ends, others, list(refused))
 
 
 class Seen:
