@@ -772,7 +772,7 @@ What is no name but an id gets a name that no other id has."
         (domepeeler--keep recording name given)
         (puthash given name (domepeeler-recording-short recording))))
      (t
-      (domepeeler--refuse "name \"%s\" is not 1 to 32 of A-Z a-z 0-9 _ - ." (domepeeler--escaped given))))))
+      (domepeeler--refuse "name \"%s\" is not 1 to 32 of A-Z a-z 0-9 _ - . (an id may have @ and , too)" (domepeeler--escaped given))))))
 
 (defun domepeeler--become (id)
   "The name that ID becomes if no other id has it; nil where only a number will do.
@@ -930,7 +930,7 @@ A letter stands first, as `2-0' would look like an operation's name."
 (defun domepeeler--different (recording warned)
   "Whether the last lists that replicas showed differ as sets.
 And which changes never arrived at which replica."
-  (let (lists never (count 0))
+  (let (lists alike (count 0))
     (cl-loop for entries across (domepeeler--warned-entries warned)
              for replica from 0
              for shown = (domepeeler--entries-shown entries)
@@ -938,11 +938,14 @@ And which changes never arrived at which replica."
              do (push replica (alist-get (sort (delete-dups (split-string shown " " t)) #'string<) lists nil nil #'equal)))
     (dolist (replica (domepeeler--acting recording))
       (let ((changes (domepeeler--lacked recording warned replica)))
-        (cl-incf count (length changes))
+        (setq count (max count (length changes)))
         (when changes
-          (push (format "%s never arrived at replica %d" (domepeeler--listed changes) replica) never))))
-    (let* ((never (domepeeler--joined (nreverse never)))
-           (lost (if (= count 1) "it was lost or is held back" "they were lost or are held back"))
+          (push replica (alist-get (domepeeler--listed changes) alike nil nil #'equal)))))
+    (let* ((never (mapconcat (lambda (pair)
+                               (format "%s never arrived at replica%s %s" (car pair) (if (cddr pair) "s" "")
+                                       (domepeeler--joined (reverse (cdr pair)))))
+                             (reverse alike) "; "))
+           (lost (if (and (= count 1) (null (cdr alike))) "it was lost or is held back" "they were lost or are held back"))
            (groups (mapcar (lambda (pair) (reverse (cdr pair))) (reverse lists)))
            (same (cl-loop for group in groups
                           when (cdr group) collect (format "%s show the same one" (domepeeler--joined group))))

@@ -821,7 +821,7 @@ static inline const char *domepeeler_name(struct domepeeler *d, const char *give
         const struct domepeeler_id *one = domepeeler_find(d, given, 0);
         return one ? one->name : domepeeler_shorten(d, given);
     }
-    domepeeler_refuse(d, 0, "name \"%s\" is not 1 to 32 of A-Z a-z 0-9 _ - .", domepeeler_escaped(given, shown, sizeof shown));
+    domepeeler_refuse(d, 0, "name \"%s\" is not 1 to 32 of A-Z a-z 0-9 _ - . (an id may have @ and , too)", domepeeler_escaped(given, shown, sizeof shown));
     return NULL;
 }
 
@@ -1247,20 +1247,35 @@ static inline size_t domepeeler_lacked(const struct domepeeler_warned *w, int re
     return count;
 }
 
-/* Says what never arrived at which replica. Answers how many changes that are. */
+/* Whether what two replicas lack is told alike. */
+static inline int domepeeler_lack_alike(const struct domepeeler_event *one, const struct domepeeler_event *two, size_t count) {
+    for (size_t i = 0; i < count && i < DOMEPEELER_CHANGES; i++)
+        if (one[i].line != two[i].line) return 0;
+    return 1;
+}
+
+/* Says what never arrived at which replicas. Answers how many changes that are, where it is one, and else more. */
 static inline size_t domepeeler_say_lacked(const struct domepeeler_warned *w, struct domepeeler_words *never) {
     struct domepeeler_event first[DOMEPEELER_REPLICAS][DOMEPEELER_CHANGES];
-    size_t counts[DOMEPEELER_REPLICAS], lacking = 0, told = 0, all = 0;
+    size_t counts[DOMEPEELER_REPLICAS], told = 0, all = 0;
+    int like[DOMEPEELER_REPLICAS], alike[DOMEPEELER_REPLICAS]; /* of each the first one that lacks the same; of this, how many do */
     for (int i = 0; i < w->d->replicas; i++) {
         counts[i] = w->d->of[i].operations ? domepeeler_lacked(w, i, first[i]) : 0;
-        lacking += counts[i] > 0;
-        all += counts[i];
+        like[i] = 0;
+        while (like[i] < i && (like[like[i]] != like[i] || counts[like[i]] != counts[i] || !domepeeler_lack_alike(first[like[i]], first[i], counts[i])))
+            like[i]++;
+        alike[i] = 0;
+        alike[like[i]]++;
+        all += like[i] == i ? counts[i] : 0;
     }
     for (int i = 0; i < w->d->replicas; i++) {
-        if (!counts[i]) continue;
-        domepeeler_say(never, "%s", domepeeler_joint(told++, lacking));
+        size_t said = 0;
+        if (!counts[i] || like[i] != i) continue;
+        domepeeler_say(never, "%s", told++ ? "; " : "");
         domepeeler_say_changes(w->d, never, first[i], counts[i]);
-        domepeeler_say(never, " never arrived at replica %d", i);
+        domepeeler_say(never, " never arrived at replica%s ", domepeeler_plural((size_t)alike[i]));
+        for (int other = i; other < w->d->replicas; other++)
+            if (like[other] == i) domepeeler_say(never, "%s%d", domepeeler_joint(said++, (size_t)alike[i]), other);
     }
     return all;
 }

@@ -589,7 +589,7 @@ export class Recording {
     }
     let name = UUID.test(given) ? given.replaceAll("-", "") : ""
     if (new TextEncoder().encode(given).length <= MOST_BYTES) {
-      if (!WITH_SIGNS.test(given)) throw new Refused(`name "${escaped(given)}" is not 1 to 32 of A-Z a-z 0-9 _ - .`)
+      if (!WITH_SIGNS.test(given)) throw new Refused(`name "${escaped(given)}" is not 1 to 32 of A-Z a-z 0-9 _ - . (an id may have @ and , too)`)
       name = (/^[0-9]/.test(given) ? "e" : "") + given.replace(/[@,]/g, "-")
     }
     if (!name || name.length > MOST_BYTES || this.#ids.has(name)) name = this.#numbered(given)
@@ -924,15 +924,19 @@ function different(ends) {
     lists.set(set, [...(lists.get(set) ?? []), replica])
   })
   const lacking = ends.map(({ pasts }, replica) => (pasts.length ? lacked(ends, replica) : { changes: [], count: 0 }))
-  const never = lacking.flatMap(({ changes, count }, replica) => (
-    count ? [`${listing(changes, count)} never arrived at replica ${replica}`] : []))
-  const isOne = lacking.reduce((all, { count }) => all + count, 0) === 1
+  const alike = new Map()
+  lacking.forEach(({ changes, count }, replica) => {
+    const what = listing(changes, count)
+    if (count) alike.set(what, [...(alike.get(what) ?? []), replica])
+  })
+  const never = [...alike].map(([what, where]) => `${what} never arrived at replica${where.length === 1 ? "" : "s"} ${joined(where)}`)
+  const isOne = alike.size === 1 && lacking.every(({ count }) => count < 2)
   const lost = isOne ? "it was lost or is held back" : "they were lost or are held back"
-  if (lists.size < 2) return never.length ? [`in this recording ${joined(never)}. If nothing was still on its way, ${lost}`] : []
+  if (lists.size < 2) return never.length ? [`in this recording ${never.join("; ")}. If nothing was still on its way, ${lost}`] : []
   const replicas = [...lists.values()].flat().sort((a, b) => a - b)
   const same = [...lists.values()].filter((one) => one.length > 1).map((one) => `${joined(one)} show the same one`)
   const said = `in the end replicas ${joined(replicas)} show different lists${same.length ? ` (${joined(same)})` : ""}`
-  return [never.length ? `${said}: ${joined(never)} in this recording. If nothing was still on its way, ${lost}` : said]
+  return [never.length ? `${said}: ${never.join("; ")} in this recording. If nothing was still on its way, ${lost}` : said]
 }
 
 // The changes that never arrived at the replica, in the order of the trace, as many as are told, and how many there are; none of an author

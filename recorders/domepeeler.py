@@ -574,7 +574,7 @@ class Recording:
         name = given.replace("-", "") if UUID.fullmatch(given) else ""
         if len(given.encode(errors="surrogatepass")) <= MOST_BYTES:
             if not WITH_SIGNS.fullmatch(given):
-                raise Refused(f'name "{_escaped(given)}" is not 1 to 32 of A-Z a-z 0-9 _ - .')
+                raise Refused(f'name "{_escaped(given)}" is not 1 to 32 of A-Z a-z 0-9 _ - . (an id may have @ and , too)')
             name = ("e" if given[0].isdigit() else "") + given.replace("@", "-").replace(",", "-")
         if not name or len(name) > MOST_BYTES or name in self._ids:
             name = self._numbered(given)
@@ -863,15 +863,19 @@ def _different(ends: List[_End]) -> List[str]:
         if one.shown is not None:
             lists.setdefault(frozenset(one.shown.split()), []).append(replica)
     lacking = [(replica, _lacked(ends, replica)) for replica, one in enumerate(ends) if one.pasts]
-    never = [f"{_listing(changes, count)} never arrived at replica {replica}" for replica, (changes, count) in lacking if count]
-    is_one = sum(count for _, (_, count) in lacking) == 1
+    alike: Dict[str, List[int]] = {}
+    for replica, (changes, count) in lacking:
+        if count:
+            alike.setdefault(_listing(changes, count), []).append(replica)
+    never = [f"{told} never arrived at replica{'' if len(where) == 1 else 's'} {_joined(map(str, where))}" for told, where in alike.items()]
+    lacked, is_one = "; ".join(never), len(alike) == 1 and all(count < 2 for _, (_, count) in lacking)
     lost = "it was lost or is held back" if is_one else "they were lost or are held back"
     if len(lists) < 2:
-        return [f"in this recording {_joined(never)}. If nothing was still on its way, {lost}"] if never else []
+        return [f"in this recording {lacked}. If nothing was still on its way, {lost}"] if never else []
     differ = f"in the end replicas {_joined(map(str, sorted(sum(lists.values(), []))))} show different lists"
     same = [f"{_joined(map(str, one))} show the same one" for one in lists.values() if len(one) > 1]
     told = differ + (f" ({_joined(same)})" if same else "")
-    return [f"{told}: {_joined(never)} in this recording. If nothing was still on its way, {lost}" if never else told]
+    return [f"{told}: {lacked} in this recording. If nothing was still on its way, {lost}" if never else told]
 
 
 def _lacked(ends: List[_End], replica: int) -> Tuple[List[str], int]:

@@ -117,7 +117,7 @@ impl Display for Refused {
             Refused::NotOfThisLog { replica, only } => {
                 write!(f, "this log is of replica {only} alone, not of {replica}")
             }
-            Refused::Name { name } => write!(f, "name \"{}\" is not 1 to 32 of A-Z a-z 0-9 _ - .", escaped(name)),
+            Refused::Name { name } => write!(f, "name \"{}\" is not 1 to 32 of A-Z a-z 0-9 _ - . (an id may have @ and , too)", escaped(name)),
             Refused::ShortFor { name, id } => write!(f, "name \"{name}\" is already used for the id \"{}\"", escaped(id)),
             Refused::NoNumber { id } => {
                 write!(f, "one replica's log can't give the id \"{}\" a short name, ", escaped(id))?;
@@ -1251,12 +1251,18 @@ impl<'a> Warned<'a> {
             }
         }
         let lacking: Vec<_> = self.acting().map(|(replica, has)| (replica, self.lacked(replica, &has))).collect();
-        let lacking: Vec<_> = lacking.into_iter().filter(|(_, changes)| !changes.is_empty()).collect();
-        let never: Vec<String> =
-            lacking.iter().map(|(replica, changes)| format!("{} never arrived at replica {replica}", listed(changes))).collect();
-        let never = joined(&never);
-        let count: usize = lacking.iter().map(|(_, changes)| changes.len()).sum();
-        let lost = if count == 1 { "it was lost or is held back" } else { "they were lost or are held back" };
+        let mut alike: Vec<(String, Vec<usize>)> = Vec::new();
+        for (replica, changes) in lacking.iter().filter(|(_, changes)| !changes.is_empty()) {
+            let what = listed(changes);
+            match alike.iter_mut().find(|(other, _)| *other == what) {
+                Some((_, replicas)) => replicas.push(*replica),
+                None => alike.push((what, vec![*replica])),
+            }
+        }
+        let told = |(what, at): &(String, Vec<usize>)| format!("{what} never arrived at replica{} {}", plural(at.len()), joined(at));
+        let never = alike.iter().map(told).collect::<Vec<String>>().join("; ");
+        let (count, is_one) = (alike.len(), alike.len() == 1 && lacking.iter().all(|(_, changes)| changes.len() < 2));
+        let lost = if is_one { "it was lost or is held back" } else { "they were lost or are held back" };
         if lists.len() < 2 {
             let told = format!("in this recording {never}. If nothing was still on its way, {lost}");
             return if count == 0 { vec![] } else { vec![told] };

@@ -81,7 +81,9 @@ WORDS = [
      "a: inserted by 0.1 (line 3)|b: inserted by 1.1 (line 4)|"
      "b arrived at replica 0 in line 5, a at replica 1 in line 6|"
      "Look at the order of concurrent inserts: a and b were inserted without knowing of each other, and were shown in two different orders. "
-     "Use a rule that gives the same order everywhere (such as the replicas' numbers), and not the order of arrival." + stop(6, "replica 1 applies 0.1", 5)),
+     "Use a rule that gives the same order everywhere (such as the replicas' numbers), and not the order of arrival.|"
+     "If the list is sorted by position identifiers, print those of a and b at each replica that shows them. If one differs between replicas, or two "
+     "are equal, look at how they are made and sent; else at how they are compared (numbers not as text)." + stop(6, "replica 1 applies 0.1", 5)),
     ("an insert that had seen the other", 2, "0 ins a 0 : a|1 recv 0 1|1 ins b 1 : a b|0 recv 1 1|0 read : b a",
      "refused 2: two responses can't be right together.|"
      "[a] before [b]: line 5 of the trace, 1.1: replica 1 inserted b at position 1, answered [a] [b]|"
@@ -102,6 +104,8 @@ WORDS = [
      "x arrived at replica 1 in line 4, x at replica 2 in line 5, a at replica 0 in line 9, b at replica 0 in line 10|"
      "Look at positions beside deleted elements: any two of 2.1, 0.3 and 1.1 fit together, but perhaps an insert lost its place "
      "because its neighbour was deleted elsewhere. The lines above say which elements each response no longer has.|"
+     "If the list is sorted by position identifiers, print those of x, b and a at each replica that shows them. If one differs between replicas, or "
+     "two are equal, look at how they are made and sent; else at how they are compared (numbers not as text).|"
      "An editor whose server orders all changes, as Jupiter's does, promises only the weak list specification, and up to line 11 that "
      "holds. To ask for that only, use --weak."
      + stop(10, "replica 0 applies 2.1", 9, 5, 4)),
@@ -138,7 +142,8 @@ WORDS = [
      "before it: 1.2 (line 8) still fits; since then replica 1 received 0.3 (line 10)|"
      "in the end replicas 0 and 1 have every change and show the same list||Where to look" + stop(10, "replica 1 applies 0.3", 6)),
     ("a beginning that shows something else", 3, f"{THREE_WAY}|1 recv 0 2|1 recv 2 1|1 read : a b",
-     "refused 3: three responses can't be right together. Any two of them can. The verdict on the whole trace is `refused 2`.||"
+     "refused 3: three responses can't be right together. Any two of them can. The first 11 lines show this; the whole trace is "
+     "`refused 2`, as told below.||"
      "When it went wrong|line 11 of the trace, 0.3: replica 0 read the list. Up to line 10 the session is accepted; line 11 leads to "
      "`refused 3`|"
      "before it: 0.2 (line 8) still fits; since then replica 0 received 1.1 (line 9), 2.1 (line 10)|"
@@ -262,15 +267,15 @@ WORDS = [
     ("past the end, elsewhere", 1, "0 ins a 0 : a|0 ins b 4294967295 : b a",
      "position 0.2: b does not stand where it was asked for.|"
      "line 4 of the trace, 0.2: replica 0 inserted b at position 4294967295|answered: [b] [a]|"
-     "asked for: position 4294967295, past the end, so the last place, 1, where [a] stands|found at: position 0"),
+     "asked for: position 4294967295, past the end, so the last place, 1; the answer has [a] there|found at: position 0"),
     ("a position", 1, "0 ins a 0 : a|0 ins b 1 : a b|0 ins c 1 : a b c",
-     "answered: a [b] [c]|asked for: position 1, where [b] stands|found at: position 2" + stop(5, "replica 0 inserts c")),
+     "answered: a [b] [c]|asked for: position 1; the answer has [b] there|found at: position 2" + stop(5, "replica 0 inserts c")),
     ("an insert that was deleted before", 2, "1 del a :|0 recv 1 1|0 ins a 0 :",
      "position 0.1: a does not stand where it was asked for.|"
      "asked for: a place in the list, but the response is empty|"
      "found at: no position: deleted by 1.1 (line 3), arrived at replica 0 in line 4 (0 recv 1 1)"),
     ("an insert whose number is not great enough", 2, "0 ins a 0 : a|0 ins b 0 : b a|1 recv 0 2|1 ins c 0 : b c a",
-     "position 1.1: c does not stand where it was asked for.|asked for: position 0, where [b] stands|found at: position 1||"
+     "position 1.1: c does not stand where it was asked for.|asked for: position 0; the answer has [b] there|found at: position 1||"
      "Where to look|"
      "Look at the numbers that order inserts at one place, if the editor has such (a clock, ids): c stands behind b, which replica 1 had "
      "already. The number that c has must be greater than that of b; perhaps it is not. Usual causes: the clock does not advance when changes arrive; the "
@@ -278,7 +283,7 @@ WORDS = [
      'is made there; else at how they are compared (numbers not as text).|If the editor has no such numbers: look at how the position that a user sees is mapped to a place '
      "in the editor's own list; and at whether the recorder writes the position that was asked for." + stop(6, "replica 1 inserts c")),
     ("a position before the one that was asked for, beside a deleted element", 1, "0 ins a 0 : a|0 ins b 1 : a b|0 del a : b|0 ins c 1 : c b",
-     "asked for: position 1, where [b] stands|found at: position 0||Where to look|"
+     "asked for: position 1; the answer has [b] there|found at: position 0||Where to look|"
      "Look at how the position that a user sees is mapped to a place in the editor's own list, where deleted elements may still stand; and "
      "at whether the recorder writes the position that was asked for.|If the list is sorted by position identifiers, print those of b and c at line 6: if they are not in this order, look at how that of c "
      "is made there; else at how they are compared (numbers not as text)." + stop(6, "replica 0 inserts c")),
@@ -358,11 +363,12 @@ WORDS = [
      f"those that its author had seen. Editor: does it lose a change, apply it twice, or apply it to another element? {GUIDE} says where the calls "
      "go." + stop(7, "replica 1 applies 0.2")),
     ("a wrong response before the one that the program names", 2, "1 ins a 0 : a|1 read :|0 recv 1 1|0 read : a|0 read :|1 read : a",
-     "contents 1.2: this response lacks one element that replica 1 had by then. The verdict on the whole trace is `contents 0.2`.||When it went wrong|"
+     "contents 1.2: this response lacks one element that replica 1 had by then. The first 4 lines show this; the whole trace is `contents 0.2`, as told "
+     "below.||When it went wrong|"
      "line 4 of the trace, 1.2: replica 1 read the list. Up to line 3 the session is accepted; line 4 leads to `contents 1.2`|"
      "the first 4 lines are enough to show it (`head -4`)||The response|line 4 of the trace, 1.2: replica 1 read the list|answered: (nothing)|"
      "[a] inserted by 1.1 (line 3), an earlier operation of replica 1" + stop(4, "replica 1 reads the list")
-     + "||What the program names in the whole trace|line 7, 0.2: replica 0 read the list, answered (nothing)||The list specifications|"
+     + "||What is wrong first in the whole trace, by its order of operations|line 7, 0.2: replica 0 read the list, answered (nothing)||The list specifications|"
      "strong and weak fail"),
     ("a delete that meets an insert which did not know it", 2, "0 ins a 0 : a|0 ins b 1 : a b|0 ins c 2 : a b c|1 recv 0 3|1 read : a b c|1 del a : b c|"
      "0 ins d 2 : a b d c|1 recv 0 4|1 read : b c d",
@@ -403,7 +409,7 @@ FAILS_WEAK = [
         "the first 14 lines are enough to show it (`head -14`)"]),
     ("a wrong position after the cycle", f"{THREE_WAY}|2 ins c 0 : x c b|0 read : b", "position 2.2: ", [
         "When it went wrong", "line 12 of the trace, 2.2: replica 2 inserted c at position 0. Up to line 11 weak holds; line 12 leads to "
-        "`position 2.2`", "asked for: position 0, where [x] stands"]),
+        "`position 2.2`", "asked for: position 0; the answer has [x] there"]),
     ("a name twice", "0 ins a 0 : a|1 ins a 0 : a", "doubled: ", ["neither the strong nor the weak one was judged: both know an element by its "
                                                                  "name"])]
 
@@ -587,7 +593,7 @@ WARNED = [
      f"in this recording 0.2 (line 5) and 0.3 (line 6) never arrived at replica 1. {THEY}"),
     ("changes that never arrive, at two replicas", 3, "0 ins a 0 : a|1 recv 0 1|2 recv 0 1|1 read : a|2 read : a|0 ins b 0 : b a|0 ins c 0 : c b a|"
      "0 ins d 0 : d c b a|0 ins e 0 : e d c b a|2 recv 0 3|2 read : c b a",
-     "in the end replicas 0, 1 and 2 show different lists: 0.2 (line 8), 0.3 (line 9), 0.4 (line 10) and 1 more never arrived at replica 1 and "
+     "in the end replicas 0, 1 and 2 show different lists: 0.2 (line 8), 0.3 (line 9), 0.4 (line 10) and 1 more never arrived at replica 1; "
      f"0.4 (line 10) and 0.5 (line 11) never arrived at replica 2 in this recording. {THEY}"),
     ("one that makes nothing of what came last", 2, "0 ins a 0 : a|1 recv 0 1|1 read : a|0 ins b 1 : a b|0 read : a b|1 recv 0 3",
      "in the end replicas 0 and 1 show different lists|replica 1 received 0.3 (line 8) last, and nothing shows how it applied that: "
@@ -885,8 +891,8 @@ def beginning(tally: Tally, program: str, text: str, report: dict, said: str) ->
     tally.check("refused: what it showed then, and the whole trace", steps == wanted, f"{text}{report}\n{said}")
     titles = [line for line in front.splitlines() if line.startswith("What the")]
     tally.check("refused: under which title", titles == ["What they show: each element before the next, in a circle"], said)
-    others = " too, and names other responses" if behind["k"] == report["k"] else ""
-    ending = f" The verdict on the whole trace is `refused {report['k']}`{others}."
+    others = " too, by other responses" if behind["k"] == report["k"] else ""
+    ending = f" The first {last} lines show this; the whole trace is `refused {report['k']}`{others}, as told below."
     tally.check("refused: the whole trace's number", said.splitlines()[0].endswith(ending) == bool(wanted[1:])
                 and said.startswith(f"refused {behind['k']}: "), said)
     return "".join(lines[:last]), behind
@@ -913,9 +919,10 @@ def sooner(tally: Tally, program: str, text: str, report: dict, said: str) -> tu
         first["verdict"] == "refused" or told[1:] == [f"  the first {count} lines are enough to show it (`head -{count}`)"]) and told[0].endswith(f". Up to line {count - 1} the session is accepted; line {count} leads to `{of_first}`")
     tally.check("a fault: when it went wrong", is_right if wanted else not told, f"{text}{report}\n{said}")
     headline, is_other = said.splitlines()[0], of_whole != of_first
-    tally.check("a fault: its headline", headline.startswith(of_first.partition(" ")[0]) and headline.endswith(f" The verdict on the whole trace is `{of_whole}`.") == is_other
+    tally.check("a fault: its headline", headline.startswith(of_first.partition(" ")[0]) and headline.endswith(
+        f" The first {count} lines show this; the whole trace is `{of_whole}`, as told below.") == is_other
                 and ("the whole trace" in headline) == is_other, f"{text}{report}\n{said}")
-    tally.check("a fault: what the whole trace names", bool(paragraph(said, "What the program names in the whole trace")) == is_other,
+    tally.check("a fault: what the whole trace names", bool(paragraph(said, "What is wrong first in the whole trace, by its order of operations")) == is_other,
                 f"{text}{report}\n{said}")
     return first, wanted
 

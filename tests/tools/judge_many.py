@@ -93,7 +93,7 @@ WARNINGS = {
     "ends": re.compile(r"(in the end replicas [\d, and]+ show different lists|in this recording )"),
     "unshown": re.compile(r"replica (\d+) received .* last, and nothing(?: but a view)? shows how it applied (?:that|them): "),
 }
-LACKED = re.compile(r"((?:\d+\.\d+ \(line \d+\)(?:, | and )?|\d+ more )+) ?never arrived at replica (\d+)")
+LACKED = re.compile(r"((?:\d+\.\d+ \(line \d+\)(?:, | and )?|\d+ more )+) ?never arrived at replicas? (\d+(?:(?:, | and )\d+(?![\d.]))*)")
 NAMED = re.compile(r"(\d+)\.(\d+) \(line (\d+)\)")
 
 KINDS_EXCHANGED = [exchanged.SMALL_PEERS, exchanged.SMALL_STAR, exchanged.SMALL_MIDDLE]
@@ -799,7 +799,7 @@ def warnings_of_sessions(tally: Tally, program: str, folder: str) -> None:
         got["unheard"] = {(int(match[1]), int(q)) for match in found["unheard"] for q in re.findall(r"\d+", match[2])}
         got["ends"] = ["different" if match[1].startswith("in the end") else "lacking" for match in found["ends"]]
         got["unshown"] = {int(match[1]) for match in found["unshown"]}
-        lacked = [(int(r), changes) for match in found["ends"] for changes, r in LACKED.findall(match.string)]
+        lacked = [(int(r), changes) for match in found["ends"] for changes, where in LACKED.findall(match.string) for r in re.findall(r"\d+", where)]
         named = {(r, (int(author), int(n))) for r, changes in lacked for author, n, _ in NAMED.findall(changes)}
         left = sum(int(count) for _, changes in lacked for count in re.findall(r"(\d+) more ", changes))
         name = Path(row["file"]).name

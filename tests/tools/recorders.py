@@ -57,7 +57,7 @@ CYCLE_REPORT = {
               {"from": "b", "response": ["b", "a"], "shown": "0.3", "to": "a"},
               {"from": "a", "response": ["a", "x"], "shown": "1.1", "to": "x"}]}
 
-NAME = "is not 1 to 32 of A-Z a-z 0-9 _ - ."
+NAME = "is not 1 to 32 of A-Z a-z 0-9 _ - . (an id may have @ and , too)"
 LETTERS32 = "abcdefghijklmnopqrstuvwxyz_-.019"
 UUID, UUID_DIGITS = "123e4567-e89b-12d3-a456-426614174000", "123e4567e89b12d3a456426614174000"
 ALMOST_UUIDS = ["123e4567-e89b-12d3-a456-42661417400g", "123e4567e-89b-12d3-a456-426614174000", "123e4567_e89b_12d3_a456_426614174000"]
@@ -718,7 +718,7 @@ AT_0 = (f"{NEVER_CAME}not causal: 1.2 was applied at replica 0 before 1.1, which
         "update: perhaps it was lost, or only the call for it is missing; if the update carried more than one change, say how many "
         "(`changes`)")
 AT_2 = AT_0.replace("at replica 0", "at replica 2")
-NO_NAME = 'name "a:b" is not 1 to 32 of A-Z a-z 0-9 _ - .'
+NO_NAME = 'name "a:b" is not 1 to 32 of A-Z a-z 0-9 _ - . (an id may have @ and , too)'
 REFUSALS = [("none", ["received 0 1 2"], []),
             ("what is not causal, and never came", [SECOND_FIRST, "received 0 2 1"], [AT_0]),
             ("what came then", [SECOND_FIRST, FIRST, SECOND_FIRST], []),
@@ -1402,8 +1402,8 @@ WARNED = [
      [f"in this recording 0.2 (line 5), 0.3 (line 6), 0.4 (line 7) and 1 more never arrived at replica 1. {LOST_SOME}"]),
     ("three replicas, two alike", ["new 3", "insert 1 a 0 a", "received 0 1 1", "received 2 1 1", "read 0 a", "insert 1 b 1 a b",
                                    "read 2 a"],
-     ["in the end replicas 0, 1 and 2 show different lists (0 and 2 show the same one): 1.2 (line 7) never arrived at replica 0 and 1.2 (line 7) "
-      f"never arrived at replica 2 in this recording. {LOST_SOME}"]),
+     ["in the end replicas 0, 1 and 2 show different lists (0 and 2 show the same one): 1.2 (line 7) never arrived at replicas 0 and 2 in "
+      f"this recording. {LOST_ONE}"]),
     ("one that both deleted", ["new 2", "insert 0 a 0 a", "received 1 0 1", "delete 0 a", "delete 1 a", "received 0 1 1", "read 0",
                                "read 1"],
      [f"in this recording 0.2 (line 5) never arrived at replica 1. {LOST_ONE}"]),

@@ -53,6 +53,8 @@ LOST_NEIGHBOUR = ("Look at inserts beside deleted elements, if inserts find thei
 NUMBERS_OF_INSERTS = " Often the number that orders inserts does not grow when changes arrive, or the neighbour is not found."
 IDENTIFIERS = ("If the list is sorted by position identifiers, print those of {names} at line {line}: if they are not in this order, look at how that of "
                "{element} is made there; else at how they are compared (numbers not as text).")
+SORTED = ("If the list is sorted by position identifiers, print those of {names} at each replica that shows them. If one differs between replicas, or two "
+          "are equal, look at how they are made and sent; else at how they are compared (numbers not as text).")
 MAPPING = ("Look at how the position that a user sees is mapped to a place in the editor's own list{deleted}; and at whether the "
            "recorder writes the position that was asked for.")
 NUMBERS = ("Look at the numbers that order inserts at one place, if the editor has such (a clock, ids): {element} stands behind "
@@ -263,10 +265,17 @@ def identifiers(insert: Operation, before: list, behind: list) -> list:
     return [Cause("identifiers", IDENTIFIERS.format(names=names, line=insert.line, element=insert.element))]
 
 
+def sorted_alike(evidence: Evidence) -> Cause:
+    """Where an editor that sorts by position identifiers may order the elements of a refusal otherwise at another replica."""
+    names = evidence.elements[:MOST_MET]
+    more = evidence.report["k"] - len(names)
+    return Cause("identifiers", SORTED.format(names=joined(names + ([f"{more} more"] if more else []))))
+
+
 def of_refusal(evidence: Evidence, weak: bool) -> list:
     """Concurrent inserts first; then inserts beside deleted elements, then two elements of which one's author had seen the other."""
     if evidence.report["k"] > 2:
-        return [*lost(evidence), of_several(evidence), Cause(ALONE, WEAK_ALONE_HOLDS.format(line=evidence.last_line))]
+        return [*lost(evidence), of_several(evidence), sorted_alike(evidence), Cause(ALONE, WEAK_ALONE_HOLDS.format(line=evidence.last_line))]
     first, then = (evidence.recording.inserts[name][0] for name in evidence.elements)
     if not first.has_seen(then) and not then.has_seen(first):
         moved = moved_over(evidence)
@@ -276,7 +285,7 @@ def of_refusal(evidence: Evidence, weak: bool) -> list:
         told = CONCURRENT.format(first=first.element, then=then.element, moved=MOVED_INSERT.format(**moved) if moved else "")
         causes = [Cause("concurrent", told), *beside_deleted(evidence)]
         is_deleted_first = evidence.lost_neighbours and not are_put_at_once(first, then)
-        return [*lost(evidence), *(causes[::-1] if is_deleted_first else causes)]
+        return [*lost(evidence), *(causes[::-1] if is_deleted_first else causes), sorted_alike(evidence)]
     later, old = (first, then) if first.has_seen(then) else (then, first)
     moved = moved_over(evidence)
     told = SEEN.format(later=at(later), new=later.element, old=old.element, numbers="" if weak and moved else NUMBERS_OF_INSERTS,

@@ -138,15 +138,19 @@ def different(replicas: list) -> list:
         if one.shown is not None:
             lists.setdefault(frozenset(one.shown.split()), []).append(replica)
     lacking = [(replica, *lacked(replicas, replica)) for replica, one in enumerate(replicas) if one.pasts]
-    never = [f"{listed(first, count)} never arrived at replica {replica}" for replica, first, count in lacking if count]
-    count = sum(count for _, _, count in lacking)
-    lost = "it was lost or is held back" if count == 1 else "they were lost or are held back"
+    alike = {}
+    for replica, first, count in lacking:
+        if count:
+            alike.setdefault(listed(first, count), []).append(replica)
+    never = [f"{told} never arrived at replica{'' if len(where) == 1 else 's'} {joined(where)}" for told, where in alike.items()]
+    lacking_told, is_one = "; ".join(never), len(alike) == 1 and all(count < 2 for _, _, count in lacking)
+    lost = "it was lost or is held back" if is_one else "they were lost or are held back"
     if len(lists) < 2:
-        return [f"in this recording {joined(never)}. If nothing was still on its way, {lost}"] if never else []
+        return [f"in this recording {lacking_told}. If nothing was still on its way, {lost}"] if never else []
     differ = f"in the end replicas {joined(sorted(replica for same in lists.values() for replica in same))} show different lists"
     same = [f"{joined(one)} show the same one" for one in lists.values() if len(one) > 1]
     told = differ + (f" ({joined(same)})" if same else "")
-    return [f"{told}: {joined(never)} in this recording. If nothing was still on its way, {lost}" if never else told]
+    return [f"{told}: {lacking_told} in this recording. If nothing was still on its way, {lost}" if never else told]
 
 
 def lacked(replicas: list, replica: int) -> tuple:

@@ -41,8 +41,9 @@ def explanation(evidence: Evidence, told: Evidence, language: str = debuggers.US
     in_order = [*(cause for cause in causes if cause.name != ALONE), *of_whole(evidence, told), *alone]
     where = [Section("Where to look", [cause.told for cause in in_order])] if causes else []
     whole = whole_trace(evidence, told)
-    others = " too, and names other responses" if verdict_of(evidence.report) == verdict_of(told.report) else ""
-    headline += f" The verdict on the whole trace is {verdict_of(evidence.report)}{others}." if whole else ""
+    if whole:
+        others = " too, by other responses" if verdict_of(evidence.report) == verdict_of(told.report) else ""
+        headline += f" The first {told.last_line} lines show this; the whole trace is {verdict_of(evidence.report)}{others}, as told below."
     if weak and is_weak_alone(evidence.report):
         headline = f"{WEAK_ALONE}: this passes, as the weak list specification alone is asked for. {headline}"
     return Explanation(headline, [*when_it_went_wrong(evidence, told, weak), *without_receipts(told), *sections, *where,
@@ -104,7 +105,7 @@ def whole_trace(evidence: Evidence, told: Evidence) -> list:
         return [Section(f"What the whole trace shows: {AROUND}", shown_by(evidence, False))]
     if all(evidence.report.get(key) == told.report.get(key) for key in ("verdict", "at", "first", "again")):
         return []
-    return [Section("What the program names in the whole trace", [f"{did(operation)}, answered {answer(evidence, operation)}"
+    return [Section("What is wrong first in the whole trace, by its order of operations", [f"{did(operation)}, answered {answer(evidence, operation)}"
                                                                   for operation in evidence.operations])]
 
 
@@ -392,7 +393,7 @@ def position(evidence: Evidence) -> tuple:
         lines.append("asked for: a place in the list, but the response is empty")
     else:
         end = f", past the end, so the last place, {asked}" if operation.at > asked else ""
-        lines.append(f"asked for: position {operation.at}{end}, where [{response[asked]}] stands")
+        lines.append(f"asked for: position {operation.at}{end}; the answer has [{response[asked]}] there")
     if operation.element in response:
         lines.append(f"found at: position {response.index(operation.element)}")
     else:
