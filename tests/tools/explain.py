@@ -82,8 +82,8 @@ WORDS = [
      "b arrived at replica 0 in line 5, a at replica 1 in line 6|"
      "Look at the order of concurrent inserts: a and b were inserted without knowing of each other, and were shown in two different orders. "
      "Use a rule that gives the same order everywhere (such as the replicas' numbers), and not the order of arrival.|"
-     "If the list is sorted by position identifiers, print those of a and b at each replica that shows them. If one differs between replicas, or two "
-     "are equal, look at how they are made and sent; else at how they are compared (numbers not as text)." + stop(6, "replica 1 applies 0.1", 5)),
+     "If the list is sorted by position identifiers, look at those of a and b: they must differ, be the same at every replica, and not be "
+     "compared as text." + stop(6, "replica 1 applies 0.1", 5)),
     ("an insert that had seen the other", 2, "0 ins a 0 : a|1 recv 0 1|1 ins b 1 : a b|0 recv 1 1|0 read : b a",
      "refused 2: two responses can't be right together.|"
      "[a] before [b]: line 5 of the trace, 1.1: replica 1 inserted b at position 1, answered [a] [b]|"
@@ -104,8 +104,8 @@ WORDS = [
      "x arrived at replica 1 in line 4, x at replica 2 in line 5, a at replica 0 in line 9, b at replica 0 in line 10|"
      "Look at positions beside deleted elements: any two of 2.1, 0.3 and 1.1 fit together, but perhaps an insert lost its place "
      "because its neighbour was deleted elsewhere. The lines above say which elements each response no longer has.|"
-     "If the list is sorted by position identifiers, print those of x, b and a at each replica that shows them. If one differs between replicas, or "
-     "two are equal, look at how they are made and sent; else at how they are compared (numbers not as text).|"
+     "If the list is sorted by position identifiers, look at those of x, b and a: they must differ, be the same at every replica, and not be "
+     "compared as text.|"
      "An editor whose server orders all changes, as Jupiter's does, promises only the weak list specification, and up to line 11 that "
      "holds. To ask for that only, use --weak."
      + stop(10, "replica 0 applies 2.1", 9, 5, 4)),
