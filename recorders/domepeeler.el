@@ -407,6 +407,7 @@ A pipe or a device has no such file beside it."
                repeat domepeeler--tries
                do (domepeeler--put-both text file told beside)
                thereis (domepeeler--may-hold beside told)
+               do (sleep-for (/ (random 10) 1000.0)) ; by chance, so that they don't keep step
                finally (domepeeler--named file (signal 'file-error '("Saving" "another process saves there too")))))
     nil))
 

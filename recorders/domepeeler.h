@@ -665,10 +665,11 @@ static inline unsigned domepeeler_put_both(struct domepeeler *d, const char *pat
 
 /* The same; again where another process has put its own beside this trace meanwhile. */
 static inline unsigned domepeeler_save_both(struct domepeeler *d, const char *path, const char *beside, const char *lines) {
-    enum { TRIES = 100 };
-    for (int i = 0; i < TRIES; i++) {
+    enum { TRIES = 100, MILLISECONDS = 10 };
+    for (unsigned i = 0; i < TRIES; i++) {
         if (!domepeeler_put_both(d, path, beside, lines)) return 0;
         if (domepeeler_may_hold(beside, lines, strlen(lines))) return 1;
+        poll(NULL, 0, (int)(((unsigned)getpid() * 7919U + i * 31U) % MILLISECONDS)); /* another one each, so that they don't keep step */
     }
     return domepeeler_cannot_write_since(d, path, "another process saves there too");
 }

@@ -306,7 +306,8 @@ export class Recording {
     for (let tries = 0; tries < MOST_TRIES; tries++) {
       await put(`${name}.lines`, toldBeside)
       await put(name, text, target)
-      if (await mayHold(`${name}.lines`, toldBeside)) return // else another one has put its own there, and this trace is beside it
+      if (await mayHold(`${name}.lines`, toldBeside)) return
+      await new Promise((goOn) => setTimeout(goOn, 10 * Math.random())) // another one has put its own there, and this trace is beside it
     }
     throw Object.assign(new Error(`another process saves there too: ${escaped(name)}`), { code: "EBUSY", path: name })
   }
@@ -786,6 +787,7 @@ function pathOf(caller, fileURLToPath) {
 async function linkedTo(path) {
   const { readlink, stat } = await import("node:fs/promises")
   const { dirname, resolve } = await import("node:path")
+  if (path === "") await stat(path).catch((why) => { throw telling(why, path) }) // it is no name of this folder
   let target = resolve(path)
   for (let links = 0; links < MOST_LINKS; links++) {
     const next = await readlink(target).catch(() => null)

@@ -35,11 +35,13 @@ from __future__ import annotations
 import errno
 import json
 import os
+import random
 import re
 import stat
 import subprocess
 import sys
 import threading
+import time
 from bisect import bisect_right
 from functools import lru_cache, wraps
 from typing import Any, Callable, Dict, Hashable, Iterable, List, Mapping, NoReturn, Optional, Sequence, Set, Tuple, TypeVar, Union, cast
@@ -341,14 +343,15 @@ class Recording:
         marks = ["language python", *(f"note {note}" for note in self._notes), *(f"delivered {first} {last}" for first, last in self._delivered),
                  *(["log"] if self._has_log else []), *(f"refused {_printable(told)}" for told in self._refusals())]
         beside = [str(len(self._lines)), *marks, *(f"{line} {places}" for line, places in self._places())]
-        if not os.path.isdir(os.path.dirname(os.path.realpath(name))):
+        if not name or not os.path.isdir(os.path.dirname(os.path.realpath(name))):
             raise FileNotFoundError(errno.ENOENT, os.strerror(errno.ENOENT), name)
         told = "".join(f"{line}\n" for line in beside).encode(errors="replace")
         for _ in range(MOST_TRIES):
             _put(f"{name}.lines", told)
             _put(name, text)  # as bytes: each line ends with LF alone on every system
-            if _may_hold(f"{name}.lines", told):  # or another process has put its own there, and this trace beside it
+            if _may_hold(f"{name}.lines", told):
                 return
+            time.sleep(random.random() / 100)  # another process has put its own there, and this trace is beside it
         raise OSError(errno.EBUSY, "another process saves there too", name)
 
     @_alone

@@ -48,6 +48,7 @@ use std::path::{Path, PathBuf};
 use std::process::{Command, Output, Stdio};
 use std::sync::atomic::{AtomicUsize, Ordering};
 use std::sync::{Arc, Mutex};
+use std::time::Duration;
 
 const MOST_REPLICAS: usize = 16;
 const MOST_ENTRIES: usize = 16384;
@@ -615,6 +616,9 @@ impl Recording {
     /// line was recorded. Each appears whole, or what stood there stays. A pipe or a device has no such file beside it.
     pub fn save(&self, path: impl AsRef<Path>) -> io::Result<()> {
         let path = path.as_ref();
+        if path.as_os_str().is_empty() {
+            fs::metadata(path)?; // it is no name of this folder
+        }
         if matches!(fs::metadata(path), Ok(about) if !about.is_file()) {
             File::create(path)?.write_all(self.lines.as_bytes())?;
         } else {
@@ -635,6 +639,8 @@ impl Recording {
             if !matches!(fs::read(beside), Ok(there) if there != told.as_bytes()) {
                 return Ok(());
             }
+            let since = std::time::SystemTime::now().duration_since(std::time::UNIX_EPOCH).map_or(0, |since| since.subsec_nanos());
+            std::thread::sleep(Duration::from_micros(u64::from(since / 100 % 10_000))); // by chance, so that they don't keep step
         }
         Err(io::Error::new(io::ErrorKind::AlreadyExists, "another process saves there too"))
     }

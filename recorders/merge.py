@@ -27,11 +27,14 @@ if __name__ == "__main__":
         sys.exit(2)
 
 import argparse
+import binascii
 import contextlib
 import errno
+import random
 import re
 import signal
 import stat
+import time
 from pathlib import Path
 
 SIDE = ".lines"  # the end of the name of a file beside a log or a trace
@@ -243,6 +246,7 @@ def write_both(path, trace, beside):
         write(path, trace)
         if may_hold(path + SIDE, beside):
             return
+        time.sleep(random.random() / 100)  # by chance, so that they don't keep step
     fail(2, "cannot write %s: another process writes there too" % path)
 
 
@@ -259,9 +263,10 @@ def write_whole(path, content):
     mode = stat.S_IMODE(os.stat(path).st_mode) if os.path.exists(path) else None
     if mode is not None and not os.access(path, os.W_OK):
         raise PermissionError(13, "Permission denied")
-    beside = os.path.join(os.path.dirname(path), ".merge-%d" % os.getpid())
+    beside = os.path.join(os.path.dirname(path), ".merge-%s" % binascii.hexlify(os.urandom(8)).decode())
     try:
-        Path(beside).write_bytes(content)
+        with open(beside, "xb") as file:  # never another one's
+            file.write(content)
         if mode is not None:
             os.chmod(beside, mode)
         os.replace(beside, path)

@@ -3,13 +3,18 @@
 
 A line of the log is what a pad typed, erased or got: the change's id, and what the pad shows then. A typed element has the id of its
 change; `of` is the element that is erased."""
-import json
 import sys
+
+if sys.version_info < (3, 9):  # in words that an older Python can read
+    sys.stderr.write("convert.py: this needs Python 3.9 or later, and is run by %d.%d\n" % sys.version_info[:2])
+    sys.exit(2)
+
+import json
 
 from domepeeler import Recording, Refused
 
 
-def record(recording: Recording, entry: dict) -> None:
+def record(recording, entry):
     pad, change, shows = entry["pad"], entry["id"], entry["shows"]
     if entry["did"] == "typed":
         recording.insert(pad, change, entry["at"], shows, change)
@@ -28,5 +33,5 @@ with open(log, encoding="utf-8") as lines:
         try:
             record(recording, json.loads(line))
         except Refused as why:
-            sys.exit(f"{log}:{number}: {why}")
+            sys.exit("%s:%d: %s" % (log, number, why))
 recording.save(trace)

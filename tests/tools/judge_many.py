@@ -1330,6 +1330,11 @@ def unknown_faults(tally: Tally, program: str, folder: str) -> None:
             got = run(f"{tools}/alone/{tool}", ["--program", program, what])
             tally.same(f"not installed whole: {tool}", got, Ended(
                 2, b"", f"{name_of(tool)}: it can't be loaded, so nothing is judged: No module named 'explaining'\n".encode()))
+        shutil.copytree(ROOT / "recorders", f"{tools}/recorders")
+        Path(tools, "recorders", "engines", "random_sessions.py").write_text("import nowhere\n")
+        for script in "properties/run.py", "engines/record.py":
+            got = subprocess.run([sys.executable, f"{tools}/recorders/{script}", "list_crdt", program], capture_output=True, text=True)
+            tally.check(f"unknown faults: {script}", got.returncode == 2 and not got.stdout and got.stderr.endswith("No module named 'nowhere'\n"), got)
         for tool in "judge_many", "explain":
             old = "import sys; sys.version_info = (3, 6, 8); sys.argv = ['x']; exec(compile(open(%r).read(), 'x', 'exec'))" % f"{tools}/{tool}"
             got = subprocess.run([sys.executable, "-c", old], capture_output=True, text=True)
@@ -1339,7 +1344,8 @@ def unknown_faults(tally: Tally, program: str, folder: str) -> None:
 
 SCRIPTS = {"tools/judge_many": "domepeeler-judge-many", "tools/explain": "domepeeler-explain", "tools/draw_cycle.py": "draw_cycle.py",
            "recorders/merge.py": "merge.py", "recorders/engines/record.py": "record.py",
-           "examples/ci/judge_recordings.py": "judge_recordings", "tools/package": "package", "recorders/properties/run.py": "run.py"}
+           "examples/ci/judge_recordings.py": "judge_recordings", "tools/package": "package", "recorders/properties/run.py": "run.py",
+           "examples/log/convert.py": "convert.py"}
 IMPORTED = ["tools/explaining/*.py", "tools/making_packages.py", "recorders/*.py", "recorders/engines/*.py", "recorders/python/domepeeler/*.py"]
 # Commands that the oldest Python that is named runs as this one does.
 MAIN_WAYS = [

@@ -660,6 +660,9 @@ def check_lines(tally: Tally, recorder: Recorder, folder: Path) -> None:
     tally.check(f"{recorder.language}: no number can be written", got.startswith("failed ") and "directory" in got, got)
     got = saved(place / "nowhere" / "a.trace")
     tally.check(f"{recorder.language}: nothing can be written", got.startswith("failed ") and "a.trace.lines" not in got, got)
+    there = Path(".lines").exists()
+    got = saved("")
+    tally.check(f"{recorder.language}: a path of nothing", got.startswith("failed ") and Path(".lines").exists() == there, got)
     full = place / "full.trace"
     narrow = Recorder(recorder.language, [*NO_ROOM, *recorder.words], recorder.surroundings["DOMEPEELER"])
     got = [saved(full, recorder, ["new\t1"]), saved(full, narrow, ["new\t1", *["read\t0"] * 100])]
