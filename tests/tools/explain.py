@@ -82,8 +82,8 @@ WORDS = [
      "b arrived at replica 0 in line 5, a at replica 1 in line 6|"
      "Look at the order of concurrent inserts: a and b were inserted without knowing of each other, and were shown in two different orders. "
      "Use a rule that gives the same order everywhere (such as the replicas' numbers), and not the order of arrival.|"
-     "If the list is sorted by position identifiers, look at those of a and b: they must differ, be the same at every replica, and not be "
-     "compared as text." + stop(6, "replica 1 applies 0.1", 5)),
+     "If the list is sorted by position identifiers, look at those of a and b: are two equal, does one differ between replicas, or are numbers "
+     "compared as text?" + stop(6, "replica 1 applies 0.1", 5)),
     ("an insert that had seen the other", 2, "0 ins a 0 : a|1 recv 0 1|1 ins b 1 : a b|0 recv 1 1|0 read : b a",
      "refused 2: two responses can't be right together.|"
      "[a] before [b]: line 5 of the trace, 1.1: replica 1 inserted b at position 1, answered [a] [b]|"
@@ -104,8 +104,8 @@ WORDS = [
      "x arrived at replica 1 in line 4, x at replica 2 in line 5, a at replica 0 in line 9, b at replica 0 in line 10|"
      "Look at positions beside deleted elements: any two of 2.1, 0.3 and 1.1 fit together, but perhaps an insert lost its place "
      "because its neighbour was deleted elsewhere. The lines above say which elements each response no longer has.|"
-     "If the list is sorted by position identifiers, look at those of x, b and a: they must differ, be the same at every replica, and not be "
-     "compared as text.|"
+     "If the list is sorted by position identifiers, look at those of x, b and a: are two equal, does one differ between replicas, or are numbers "
+     "compared as text?|"
      "An editor whose server orders all changes, as Jupiter's does, promises only the weak list specification, and up to line 11 that "
      "holds. To ask for that only, use --weak."
      + stop(10, "replica 0 applies 2.1", 9, 5, 4)),
@@ -267,7 +267,7 @@ WORDS = [
     ("past the end, elsewhere", 1, "0 ins a 0 : a|0 ins b 4294967295 : b a",
      "position 0.2: b does not stand where it was asked for.|"
      "line 4 of the trace, 0.2: replica 0 inserted b at position 4294967295|answered: [b] [a]|"
-     "asked for: position 4294967295, past the end, so the last place, 1; the answer has [a] there|found at: position 0"),
+     "asked for: position 4294967295, past the end, so the last place (1); the answer has [a] there|found at: position 0"),
     ("a position", 1, "0 ins a 0 : a|0 ins b 1 : a b|0 ins c 1 : a b c",
      "answered: a [b] [c]|asked for: position 1; the answer has [b] there|found at: position 2" + stop(5, "replica 0 inserts c")),
     ("an insert that was deleted before", 2, "1 del a :|0 recv 1 1|0 ins a 0 :",
@@ -368,7 +368,7 @@ WORDS = [
      "line 4 of the trace, 1.2: replica 1 read the list. Up to line 3 the session is accepted; line 4 leads to `contents 1.2`|"
      "the first 4 lines are enough to show it (`head -4`)||The response|line 4 of the trace, 1.2: replica 1 read the list|answered: (nothing)|"
      "[a] inserted by 1.1 (line 3), an earlier operation of replica 1" + stop(4, "replica 1 reads the list")
-     + "||What is wrong first in the whole trace, by its order of operations|line 7, 0.2: replica 0 read the list, answered (nothing)||The list specifications|"
+     + "||What the verdict on the whole trace is about|line 7, 0.2: replica 0 read the list, answered (nothing)||The list specifications|"
      "strong and weak fail"),
     ("a delete that meets an insert which did not know it", 2, "0 ins a 0 : a|0 ins b 1 : a b|0 ins c 2 : a b c|1 recv 0 3|1 read : a b c|1 del a : b c|"
      "0 ins d 2 : a b d c|1 recv 0 4|1 read : b c d",
@@ -922,7 +922,7 @@ def sooner(tally: Tally, program: str, text: str, report: dict, said: str) -> tu
     tally.check("a fault: its headline", headline.startswith(of_first.partition(" ")[0]) and headline.endswith(
         f" The first {count} lines show this; the whole trace is `{of_whole}`, as told below.") == is_other
                 and ("the whole trace" in headline) == is_other, f"{text}{report}\n{said}")
-    tally.check("a fault: what the whole trace names", bool(paragraph(said, "What is wrong first in the whole trace, by its order of operations")) == is_other,
+    tally.check("a fault: what the whole trace names", bool(paragraph(said, "What the verdict on the whole trace is about")) == is_other,
                 f"{text}{report}\n{said}")
     return first, wanted
 

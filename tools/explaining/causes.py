@@ -53,8 +53,8 @@ LOST_NEIGHBOUR = ("Look at inserts beside deleted elements, if inserts find thei
 NUMBERS_OF_INSERTS = " Often the number that orders inserts does not grow when changes arrive, or the neighbour is not found."
 IDENTIFIERS = ("If the list is sorted by position identifiers, print those of {names} at line {line}: if they are not in this order, look at how that of "
                "{element} is made there; else at how they are compared (numbers not as text).")
-SORTED = ("If the list is sorted by position identifiers, look at those of {names}: they must differ, be the same at every "
-          "replica, and not be compared as text.")
+SORTED = ("If the list is sorted by position identifiers, look at those of {names}: are two equal, does one differ between "
+          "replicas, or are numbers compared as text?")
 MAPPING = ("Look at how the position that a user sees is mapped to a place in the editor's own list{deleted}; and at whether the "
            "recorder writes the position that was asked for.")
 NUMBERS = ("Look at the numbers that order inserts at one place, if the editor has such (a clock, ids): {element} stands behind "

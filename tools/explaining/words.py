@@ -105,7 +105,7 @@ def whole_trace(evidence: Evidence, told: Evidence) -> list:
         return [Section(f"What the whole trace shows: {AROUND}", shown_by(evidence, False))]
     if all(evidence.report.get(key) == told.report.get(key) for key in ("verdict", "at", "first", "again")):
         return []
-    return [Section("What is wrong first in the whole trace, by its order of operations", [f"{did(operation)}, answered {answer(evidence, operation)}"
+    return [Section("What the verdict on the whole trace is about", [f"{did(operation)}, answered {answer(evidence, operation)}"
                                                                   for operation in evidence.operations])]
 
 
@@ -392,7 +392,7 @@ def position(evidence: Evidence) -> tuple:
     if asked < 0:
         lines.append("asked for: a place in the list, but the response is empty")
     else:
-        end = f", past the end, so the last place, {asked}" if operation.at > asked else ""
+        end = f", past the end, so the last place ({asked})" if operation.at > asked else ""
         lines.append(f"asked for: position {operation.at}{end}; the answer has [{response[asked]}] there")
     if operation.element in response:
         lines.append(f"found at: position {response.index(operation.element)}")
