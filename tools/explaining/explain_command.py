@@ -112,7 +112,7 @@ def write_small(path: str, evidence: Evidence, told: Evidence, program: str, kno
         return
     small = smallest(told, report_of(program))
     if small is None:
-        fail("no smaller trace has the same verdict, nor has this tool's copy of the whole one")
+        fail("no small trace was made: this tool's copy of the whole trace has another verdict")
     write(path, small.text)
     lines = small.text.splitlines()
     placed = [f"{number} {known.places[line]}" for number, line in enumerate(small.lines, FIRST_ENTRY) if line in known.places]
