@@ -4,36 +4,16 @@ use Rattle.std.proofs.Common.{◌++◌, length, min, inl, inr, refl, subst, le_t
 use Rattle.std.specs.Prelude.{slice_index, sum_by}
 use Rattle.std.proofs.Math.Nat.{add-mul}
 use Rattle.level_search.specs.LayerSizes.{counted, layer_size}
-use Rattle.level_search.specs.Looks.{AreCountsAt, HasLookedBy, IsAtEnd, IsCountBy, IsCountOf, IsLastPart}
+use Rattle.level_search.specs.Looks.{AreCountsAt, HasLookedBy, IsCountAfter, IsCountBy, IsCountOf, IsLastPart}
 use Rattle.level_search.specs.Looks.{IsListCount}
 use Rattle.level_search.specs.declared.tabled.sets.Sets.{Sets}
 use Rattle.level_search.proofs.LayerSizes.{layer-up, sizes-within}
-
-end-lower : (n : ℕ) (sets : Sets) (low low' level : ℕ) → low' ≤ low → IsAtEnd n sets low level
-    → IsAtEnd n sets low' level
-end-lower n sets low low' level less (inl high) = inl (le_trans less high)
-end-lower n sets low low' level less (inr none) = inr none
-
-part-lower : (n : ℕ) (rows : List (List ℕ)) (s low low' : ℕ) (sets : Sets) (level : ℕ) (answer : Option ℕ)
-    (part : ℕ) → low' ≤ low → IsLastPart n rows s low sets level answer part
-    → IsLastPart n rows s low' sets level answer part
-part-lower n rows s low low' sets level (Some m) part less is = is
-part-lower n rows s low low' sets level None part less (inl is) =
-    inl (is.0, end-lower n sets low low' level less is.1)
-part-lower n rows s low low' sets level None part less (inr is) = inr (is.0, le_trans less is.1)
 
 -- a lower bound is no less than a lower one
 pub count-lower : (n : ℕ) (rows : List (List ℕ)) (s low low' : ℕ) (sets : Sets) (answer : Option ℕ)
     (count : ℕ) → low' ≤ low → IsCountOf n rows s low sets answer count
     → IsCountOf n rows s low' sets answer count
-count-lower n rows s low low' sets answer count less is = record {
-  level = is.level;
-  near = is.near;
-  reached = is.reached;
-  part = is.part;
-  is_part = part-lower n rows s low low' sets is.level answer is.part less is.is_part;
-  is_sum = is.is_sum;
-}
+count-lower n rows s low low' sets answer count less is = (is.0, is.1, le_trans less is.2, is.3)
 
 list-lower : (n : ℕ) (rows : List (List ℕ)) (low low' : ℕ) (answer : Option ℕ) (count : ℕ) → low' ≤ low
     → IsListCount n rows low answer count → IsListCount n rows low' answer count
@@ -89,21 +69,22 @@ counts-append n rows low sources (x ∷ xs) ys a b one are = (
   (let sum = one.6 in omega (arith, sum)),
 )
 
-part-within : (n : ℕ) (rows : List (List ℕ)) (s low : ℕ) (sets : Sets) (level : ℕ) (answer : Option ℕ)
-    (part : ℕ) → IsLastPart n rows s low sets level answer part → part ≤ layer_size n sets
-part-within n rows s low sets level (Some m) part is =
+part-within : (n : ℕ) (rows : List (List ℕ)) (s low times : ℕ) (sets : Sets) (level : ℕ) (answer : Option ℕ)
+    (part : ℕ) → IsLastPart n rows s low times sets level answer part → part ≤ layer_size n sets
+part-within n rows s low times sets level (Some m) part is =
     let known = is.2.here.known in
     let up = layer-up sets (is.1 + 1) n (omega (arith, known)) in
     let part_is = is.3 in
     omega (arith, up, part_is)
-part-within n rows s low sets level None part (inl is) = let none = is.0 in omega (arith, none)
-part-within n rows s low sets level None part (inr is) = let all = is.0 in omega (arith, all)
+part-within n rows s low times sets level None part (inl is) = let none = is.0 in omega (arith, none)
+part-within n rows s low times sets level None part (inr (inl is)) = let all = is.0 in omega (arith, all)
+part-within n rows s low times sets level None part (inr (inr is)) = let none = is.0 in omega (arith, none)
 
 -- no search looks more than twice at the row of each element
-pub count-most : (n : ℕ) (rows : List (List ℕ)) (s low : ℕ) (sets : Sets) (answer : Option ℕ) (count : ℕ)
-    → IsCountOf n rows s low sets answer count → count ≤ 2 * n
-count-most n rows s low sets answer count is =
-    let part = part-within n rows s low sets is.level answer is.part is.is_part in
+pub count-most : (n : ℕ) (rows : List (List ℕ)) (s low times : ℕ) (sets : Sets) (answer : Option ℕ)
+    (count : ℕ) → IsCountAfter n rows s low times sets answer count → count ≤ 2 * n
+count-most n rows s low times sets answer count is =
+    let part = part-within n rows s low times sets is.level answer is.part is.is_part in
     let sum = is.is_sum in
     omega (arith, sum, part, sizes-within n sets)
 
@@ -117,7 +98,7 @@ pub either-most : (n : ℕ) (rows : List (List ℕ)) (s low : ℕ) (sets : Sets)
     (count most : ℕ) → 2 * n ≤ most → sum_by (λ r. length r) rows + n ≤ most
     → IsCountBy n rows s low sets answer count → count ≤ most
 either-most n rows s low sets answer count most two all (inl is) =
-    le_trans (count-most n rows s low sets answer count is) two
+    le_trans (count-most n rows s is.0 is.1 sets answer count is.3) two
 either-most n rows s low sets answer count most two all (inr is) =
     le_trans (list-most n rows low answer count is) all
 

@@ -109,18 +109,19 @@ module _ (v : Responses) (proper : AreProper v) where
       → IsShortest (lists_of v) s m
       → IsCountOf (length v.elements) (lists_of v) s low sets (Some m) count → 2 * m ≤ count + 1
   table-least s low sets m count known shortest is =
-      let last : m ≡ is.level + 1 = is.is_part.0 in
-      let x : ℕ = is.is_part.1 in
-      let here = is.is_part.2.here in
-      let part = is.is_part.3 in
-      let same : m ≡ suc is.level = omega (arith, last) in
+      let at = is.3 in
+      let last : m ≡ at.level + 1 = at.is_part.0 in
+      let x : ℕ = at.is_part.1 in
+      let here = at.is_part.2.here in
+      let part = at.is_part.3 in
+      let same : m ≡ suc at.level = omega (arith, last) in
       omega (
         arith,
         last,
         part,
-        is.is_sum,
+        at.is_sum,
         layer-more sets x here.reached here.not_near,
-        ball-size s is.level sets.near known is.near (subst (IsShortest (lists_of v) s) same shortest),
+        ball-size s at.level sets.near known at.near (subst (IsShortest (lists_of v) s) same shortest),
       )
 
   either-least : (s low : ℕ) (sets : Sets) (m count : ℕ) → s < length v.elements

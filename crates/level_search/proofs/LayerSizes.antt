@@ -18,7 +18,7 @@ pub bit-has : (set : List ℕ) (x : ℕ) → Has set x → bit set x ≡ 1
 unfolding Has
 bit-has set x has = has
 
-bit-not : (set : List ℕ) (x : ℕ) → ¬ Has set x → bit set x ≡ 0
+pub bit-not : (set : List ℕ) (x : ℕ) → ¬ Has set x → bit set x ≡ 0
 unfolding Has
 bit-not set x not = elim (cases_lt (bit set x) 1) [
   | inl low ↦ omega (arith, low)

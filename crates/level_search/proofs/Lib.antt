@@ -4,6 +4,7 @@ pub mod Noting
 pub mod BallLemmas
 pub mod LayerSizes
 pub mod Counts
+pub mod OneCount
 pub mod Placed
 -- Lemmas on cores and cycles.
 pub mod StepsRound

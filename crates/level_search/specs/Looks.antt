@@ -13,34 +13,45 @@ pub record IsFirstBehind (n : ℕ) (rows : List (List ℕ)) (sets : Sets) (s x :
   pub before : Before rows s x
   pub first : (y : ℕ) → y < x → IsInLayer n sets y → ¬ Before rows s y
 
--- the search has come to its end: no element is left, or no cycle shorter than `low` can be found any more
-abbrev pub IsAtEnd : ℕ → Sets → ℕ → ℕ → Type 0
-IsAtEnd n sets low level = (low ≤ level + 1) ⊎ ((x : ℕ) → ¬ IsInLayer n sets x)
+-- How many of the layer after the near elements were looked at for a cycle that closes there, by a search that
+-- has read its bound so many times, before each layer, and last as `low`: those up to where the cycle closes.
+-- Where none is found, none where the bound forbids a cycle there; all where it forbids one after it; and where
+-- it forbids neither, no element is left.
+abbrev pub IsLastPart : ℕ → List (List ℕ) → ℕ → ℕ → ℕ → Sets → ℕ → Option ℕ → ℕ → Type 0
+IsLastPart n rows s low times sets level (Some m) part =
+    (m ≡ level + 1) × (x : ℕ) × IsFirstBehind n rows sets s x × (part ≡ layer_size (x + 1) sets) × (times ≡ m)
+IsLastPart n rows s low times sets level None part =
+    ((part ≡ 0) × (times ≡ level + 1) × (low ≤ times))
+    ⊎ (((part ≡ layer_size n sets) × (times ≡ level + 1) × (low ≡ times + 1))
+    ⊎ ((part ≡ 0) × (times ≡ level) × (times + 1 < low) × ((x : ℕ) → ¬ IsInLayer n sets x)))
 
--- how many of the last layer were looked at: those up to where the cycle closes; where none is found, none at
--- the end and all just before it
-abbrev pub IsLastPart : ℕ → List (List ℕ) → ℕ → ℕ → Sets → ℕ → Option ℕ → ℕ → Type 0
-IsLastPart n rows s low sets level (Some m) part =
-    (m ≡ level + 1) × (x : ℕ) × IsFirstBehind n rows sets s x × (part ≡ layer_size (x + 1) sets)
-IsLastPart n rows s low sets level None part =
-    ((part ≡ 0) × IsAtEnd n sets low level) ⊎ ((part ≡ layer_size n sets) × (low ≤ level + 2))
-
--- So many looks of a search from s under bounds of no less than `low`: two at the row of each element from
--- which fewer steps than some number lead to s, and one at those of part of the next layer. `sets` are as it
--- left them.
-pub record IsCountOf (n : ℕ) (rows : List (List ℕ)) (s low : ℕ) (sets : Sets) (answer : Option ℕ)
+-- So many looks of a search from s that has read its bound so many times, and last as `low`: two at the row of
+-- each element from which fewer steps than some number lead to s, and one at those of part of the next layer.
+-- `sets` are as it left them.
+pub record IsCountAfter (n : ℕ) (rows : List (List ℕ)) (s low times : ℕ) (sets : Sets) (answer : Option ℕ)
     (count : ℕ) : Type 0 where
   pub level : ℕ
   pub near : IsBall rows s level sets.near
   pub reached : IsBall rows s (level + 1) sets.reached
   pub part : ℕ
-  pub is_part : IsLastPart n rows s low sets level answer part
+  pub is_part : IsLastPart n rows s low times sets level answer part
   pub is_sum : count ≡ 2 * set_size n sets.near + part
 
--- a search has raised the count by its looks
-abbrev pub HasLooked : ℕ → List (List ℕ) → ℕ → ℕ → Sets → Option ℕ → ℕ → ℕ → Type 0
-HasLooked n rows s low sets answer old new =
-    (count : ℕ) × IsCountOf n rows s low sets answer count × (new ≡ counted count old)
+-- so many looks of a search from s under bounds of no less than `low`: those after so many readings, by the last
+abbrev pub IsCountOf : ℕ → List (List ℕ) → ℕ → ℕ → Sets → Option ℕ → ℕ → Type 0
+IsCountOf n rows s low sets answer count =
+    (last : ℕ) × (times : ℕ) × (low ≤ last) × IsCountAfter n rows s last times sets answer count
+
+-- a search that has read its bound so many times, and last as `low`, has raised the count by its looks
+abbrev pub HasLooked : ℕ → List (List ℕ) → ℕ → ℕ → ℕ → Sets → Option ℕ → ℕ → ℕ → Type 0
+HasLooked n rows s low times sets answer old new =
+    (count : ℕ) × IsCountAfter n rows s low times sets answer count × (new ≡ counted count old)
+
+-- the looks of such a search are told by what it answers
+abbrev pub LooksAreDetermined : Type 0
+LooksAreDetermined = (n : ℕ) (rows : List (List ℕ)) (s low times : ℕ) (one other : Sets) (answer : Option ℕ)
+    (a b : ℕ) → IsCountAfter n rows s low times one answer a → IsCountAfter n rows s low times other answer b
+    → a ≡ b
 
 -- so many looks of a search over the lists: one at each place and element at most. It has looked at two at
 -- least for each element of a cycle that it found, and at one at least where a bound let it look for any.

@@ -35,7 +35,7 @@ pub use before_table::BeforeTable;
 pub use conflict::{Conflict, conflict_number, least_conflict};
 pub use cycles::least_cycle;
 pub use gate::{Gate, NoGate};
-pub use laws::{least_offer_is_shortest, most_workers_is_the_number};
+pub use laws::{least_offer_is_shortest, looks_are_determined, most_workers_is_the_number};
 pub use list_search::{BoundSource, PlainBound, Scratch, distances, search};
 pub use order_graph::Looked;
 pub use search_fault::SearchFault;

@@ -54,9 +54,12 @@ fn closes(
 /// and once for the next layer: so there are at most twice as many steps as elements. They are counted where
 /// they are made.
 ///
-/// The count is exact. It has two looks for each element from which fewer than some number of steps lead to
-/// the source. It has one for each from which just as many do, up to the one where the cycle closes. Where no
-/// cycle is found, it has one for each of these or for none.
+/// The bound is read before each layer: n times, say, and `low` is the last answer. The count is exact, given
+/// these two. A cycle that it finds has n elements; there are two looks for each element from which fewer than
+/// n - 1 steps lead to the source, and one for each from which just as many do, up to the one where the cycle
+/// closes. Where it finds none, it looks twice at those from which fewer than n - 1 steps lead to the source, and
+/// at those from which just as many do, not at all where `low` is n or less, once where it is n + 1, and twice
+/// where it is more: then no more steps lead there.
 pub fn search_by_table<B: BoundSource>(
     graph: &OrderGraph,
     table: &BeforeTable,
@@ -73,7 +76,8 @@ pub fn search_by_table<B: BoundSource>(
     ensures reads { B.reads bound.old bound.new }
     ensures fits { FitsSets (length graph.now.elements) sets.new }
     ensures looked { looked.new ≤ looked.old + 2 * length graph.now.elements }
-    ensures looks { HasLooked (length graph.now.elements) (lists_of graph.now) element (B.last bound.new)
+    ensures looks { (times : ℕ) × B.read_times bound.old times bound.new
+        × HasLooked (length graph.now.elements) (lists_of graph.now) element (B.last bound.new) times
         sets.new result looked.old looked.new }
 {
     // Its contract has that the responses are proper.

@@ -4,6 +4,7 @@ use Rattle.std.proofs.Common.{add-one}
 use Rattle.std.proofs.lemmas.Bool.{cases_lt}
 use Rattle.list_search.specs.Graph.{Graph, Before}
 use Rattle.list_search.specs.Progress.{FollowsLayer, Grows, IsExpanded, IsGood, IsReached}
+use Rattle.list_search.specs.Readings.{NothingLeftAfter}
 use Rattle.list_search.specs.Walks.{Walk}
 use Rattle.list_search.specs.declared.searching.state.State.{State}
 use Rattle.list_search.proofs.Growth.{still_expanded}
@@ -17,6 +18,7 @@ pub record IsLevelled (g : Graph) (s : ℕ) (st : State) (head level : ℕ) : Ty
   pub level_in : level ≤ head
   pub done : (k : ℕ) → k < head → IsExpanded g.rows st.marks.items (slice_index st.queue.items k)
   pub walks : (k : ℕ) → head ≤ k → k < st.tail → Walk g.rows s level (slice_index st.queue.items k)
+  pub short : (k : ℕ) → k < head → (m : ℕ) × (m < level) × Walk g.rows s m (slice_index st.queue.items k)
   pub near : (n x : ℕ) → n < level → Walk g.rows s n x → IsExpanded g.rows st.marks.items x
 
 -- what stands after an expanded element is reached
@@ -55,6 +57,14 @@ pub walk_expanded : (g : Graph) (s head level : ℕ) (st : State) → IsLevelled
 walk_expanded g s head level st at empty n x walk =
     reached_expanded g s head level st at empty x (every_walk_reached g s head level st at empty n x walk)
 
+-- and fewer steps than the level lead there
+pub nothing_left : (g : Graph) (s head level : ℕ) (st : State) → IsLevelled g s st head level → st.tail ≤ head
+    → NothingLeftAfter g.rows s level
+nothing_left g s head level st at empty n x walk =
+    let reached = every_walk_reached g s head level st at empty n x walk in
+    subst (λ y. (m : ℕ) × (m < level) × Walk g.rows s m y) reached.here
+    (at.short reached.at (let h = reached.early in omega arith))
+
 -- what follows the layer has a walk of one step more
 pub walk_follows : (g : Graph) (s head level x : ℕ) (st : State) → IsLevelled g s st head level
     → FollowsLayer g.rows st.queue.items head st.tail x → Walk g.rows s (level + 1) x
@@ -87,6 +97,11 @@ levelled_next g s head level a b at some good grows expanded =
       done = done;
       walks = λ k low high. walk_follows g s head level (slice_index b.queue.items k) a at
           (grows.fresh k low high);
+      short = λ k h. subst (λ y. (m : ℕ) × (m < level + 1) × Walk g.rows s m y) (sym (grows.kept k h))
+          (elim (cases_lt k head) [
+            | inl early ↦ let m = at.short k early in (m.0, (let lt = m.1 in omega arith), m.2)
+            | inr late ↦ (level, omega arith, at.walks k late h)
+          ]);
       near = λ n x h walk.
           let reached = walk_reached g s head level a at n x (omega arith) walk in
           let early : reached.at < a.tail = reached.early in

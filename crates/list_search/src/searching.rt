@@ -6,6 +6,7 @@ ghost use Rattle.order_graph.specs.Lists.{lists_of};
 ghost use Rattle.events.specs.Names.{NameBytes};
 ghost use Rattle.specification.specs.Search.{IsCycleThrough, IsSearchAnswer};
 ghost use Rattle.list_search.specs.Distances.{AreDistances, AreReached};
+ghost use Rattle.list_search.specs.Readings.{AreReadings};
 ghost use Rattle.list_search.specs.Walks as by_number;
 
 mod bound_source;
@@ -169,6 +170,8 @@ pub fn search_ready<B: BoundSource>(
     ensures answer { by_number.IsSearchAnswer (lists_of graph.now) element (B.last bound.new) result }
     ensures bound { B.last bound.new ≤ B.last bound.old }
     ensures reads { B.reads bound.old bound.new }
+    ensures times { (n : ℕ) × B.read_times bound.old n bound.new
+        × AreReadings (lists_of graph.now) element (B.last bound.new) result n }
     ensures none { IfNone result (length graph.now.elements < B.last bound.new → (n : ℕ)
         → ¬ by_number.HasCycle (lists_of graph.now) element n) }
     ensures ready { IsReady ready.new graph.now }
@@ -194,6 +197,8 @@ pub fn search_by_number<B: BoundSource>(
     ensures answer { by_number.IsSearchAnswer (lists_of graph.now) element (B.last bound.new) result }
     ensures bound { B.last bound.new ≤ B.last bound.old }
     ensures reads { B.reads bound.old bound.new }
+    ensures times { (n : ℕ) × B.read_times bound.old n bound.new
+        × AreReadings (lists_of graph.now) element (B.last bound.new) result n }
     ensures none { IfNone result (length graph.now.elements < B.last bound.new → (n : ℕ)
         → ¬ by_number.HasCycle (lists_of graph.now) element n) }
     ensures fits { Fits scratch.new graph.now }
@@ -211,7 +216,9 @@ pub fn search_by_number<B: BoundSource>(
 
 /// Searches by levels for the shortest cycle through the element with this number.
 ///
-/// It reads the bound at least once, and again before each layer. `Some` is the length of the shortest
+/// It reads the bound before each layer: m times where it finds a cycle of m elements. Where it finds none, it
+/// has read the bound n times, and the last answer was n or less, or fewer than n steps lead wherever any do.
+/// `Some` is the length of the shortest
 /// cycle, where it is below the bound last read; `None` says that no cycle through the element is shorter
 /// than that bound, and where it is above the number of elements, that there is none at all.
 ///
@@ -229,6 +236,8 @@ pub fn search<B: BoundSource>(
     ensures answer { IsSearchAnswer graph.now element (B.last bound.new) result }
     ensures bound { B.last bound.new ≤ B.last bound.old }
     ensures reads { B.reads bound.old bound.new }
+    ensures times { (n : ℕ) × B.read_times bound.old n bound.new
+        × AreReadings (lists_of graph.now) element (B.last bound.new) result n }
     ensures none { IfNone result (length graph.now.elements < B.last bound.new → (cycle : List NameBytes)
         → ¬ IsCycleThrough graph.now element cycle) }
     ensures fits { Fits scratch.new graph.now }

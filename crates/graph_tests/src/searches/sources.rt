@@ -26,9 +26,15 @@ impl BoundSource for FallingBound {
 
     ghost reads = { λ a b. b.then ≡ a.then };
 
+    ghost read_times = { λ a n b. b.then ≡ a.then };
+
     ghost reads_none = { λ a. refl };
 
     ghost reads_more = { λ a b c p q. q ∙ p };
+
+    ghost times_none = { λ a. refl };
+
+    ghost times_more = { λ a b c m n p q. q ∙ p };
 
     fn best(&mut self) -> u32 {
         if self.asked {

@@ -154,9 +154,15 @@ impl<'a> BoundSource for MetSeat<'a> {
 
     ghost reads = { λ a b. b ≡ record a { low = b.low } };
 
+    ghost read_times = { λ a n b. b ≡ record a { low = b.low } };
+
     ghost reads_none = { λ a. refl };
 
     ghost reads_more = { λ a b c p q. q ∙ ap (λ (s : SeatView). record s { low = c.low }) p };
+
+    ghost times_none = { λ a. refl };
+
+    ghost times_more = { λ a b c m n p q. q ∙ ap (λ (s : SeatView). record s { low = c.low }) p };
 
     fn best(&mut self) -> u32 {
         self.meeting.ask();

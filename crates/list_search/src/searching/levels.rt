@@ -5,6 +5,7 @@ ghost use Rattle.specification.specs.Responses.{place_count};
 ghost use Rattle.order_graph.specs.Lists.{lists_of};
 ghost use Rattle.list_search.specs.Graph.{graph_of};
 ghost use Rattle.list_search.specs.Progress.{FitsState, IsGood};
+ghost use Rattle.list_search.specs.Readings.{AreReadings};
 ghost use Rattle.list_search.specs.ScratchView.{LooksWithin};
 ghost use Rattle.list_search.specs.Walks.{HasCycle, IsSearchAnswer};
 
@@ -14,7 +15,8 @@ use super::start::start;
 use super::state::State;
 use order_graph::{Looked, OrderGraph};
 
-/// Searches by levels for the shortest cycle through an element, below the bound last read.
+/// Searches by levels for the shortest cycle through an element, below the bound last read. The bound is read
+/// before each layer.
 pub fn search_in<B: BoundSource>(
     graph: &OrderGraph,
     element: u32,
@@ -28,6 +30,8 @@ pub fn search_in<B: BoundSource>(
     ensures bound { B.last bound.new ≤ B.last bound.old }
     ensures fits { FitsState (graph_of graph.now) state.new }
     ensures reads { B.reads bound.old bound.new }
+    ensures times { (n : ℕ) × B.read_times bound.old n bound.new
+        × AreReadings (lists_of graph.now) element (B.last bound.new) result n }
     ensures none { IfNone result (length graph.now.elements < B.last bound.new → (n : ℕ)
         → ¬ HasCycle (lists_of graph.now) element n) }
     ensures looked { LooksWithin graph.now looked.new result }
@@ -56,6 +60,8 @@ pub fn search_on<B: BoundSource>(
     ensures bound { B.last bound.new ≤ B.last bound.old }
     ensures good { IsGood (graph_of graph.now) element state.new }
     ensures reads { B.reads bound.old bound.new }
+    ensures times { (n : ℕ) × B.read_times bound.old n bound.new
+        × AreReadings (lists_of graph.now) element (B.last bound.new) result n }
     ensures none { IfNone result (length graph.now.elements < B.last bound.new → (n : ℕ)
         → ¬ HasCycle (lists_of graph.now) element n) }
     ensures looked { LooksWithin graph.now looked.new result }

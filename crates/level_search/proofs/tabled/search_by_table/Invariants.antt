@@ -1,4 +1,4 @@
-use Rattle.std.proofs.Common.{◌≡◌, ◌*◌, ◌<◌, ◌≤◌, ◌^◌, length}
+use Rattle.std.proofs.Common.{◌≡◌, ◌+◌, ◌*◌, ◌<◌, ◌≤◌, ◌^◌, length}
 use Rattle.order_graph.specs.Lists.{lists_of}
 use Rattle.level_search.specs.Balls.{FitsSets, IsAtLevel}
 use Rattle.level_search.specs.LayerSizes.{counted, set_size}
@@ -10,6 +10,8 @@ invariant-loop-level g l = record {
   fits : FitsSets (length l.graph.elements) l.sets;
   bound : g.B.BoundSource.last l.bound ≤ g.B.BoundSource.last l.fn.bound;
   reads : g.B.BoundSource.reads l.fn.bound l.bound;
+  times : g.B.BoundSource.read_times l.fn.bound l.level l.bound;
   looked : l.looked ≡ counted (2 * set_size (length l.graph.elements) l.sets.near) l.fn.looked;
-  read : 0 < l.level → g.B.BoundSource.last l.bound < 2 ^ 32;
+  read : 0 < l.level → (l.level + 1 < g.B.BoundSource.last l.bound)
+      × (g.B.BoundSource.last l.bound < 2 ^ 32);
 }

@@ -1,6 +1,7 @@
-use Rattle.std.proofs.Common.{arith}
+use Rattle.std.proofs.Common.{◌+◌, inl, inr, refl, arith}
 use Rattle.list_search.specs.Graph.{graph_of}
 use Rattle.list_search.proofs.Layers.{cycle_found, cycle_long, layered_next, no_cycle}
+use Rattle.list_search.proofs.Levelled.{nothing_left}
 use Rattle.list_search.proofs.searching.levels.search_on.Goals as goal
 
 -- the bound is not above the least length that is left
@@ -40,6 +41,7 @@ levels-preserved g c =
       fits = omega (arith, last);
       bound = omega (arith, last, falls, before.bound);
       reads = g.met.B.BoundSource.reads_more _ _ _ before.reads c.best-least.ensures.reads;
+      times = g.met.B.BoundSource.times_more _ _ _ _ _ before.times c.best-least.ensures.times;
       cost = let h = after.cost in let k = before.cost in omega arith;
       work = λ more. let one = after.works.reach more in let low = before.work c.levels-test.true in
           omega arith;
@@ -56,3 +58,28 @@ pub returns-clause-none : goal.returns-clause-none
 returns-clause-none g c = λ few n cycle.
     no_cycle (graph_of c.args.graph.now) c.args.element c.levels.head c.levels.level c.levels.state
     c.levels.invariant.layered c.levels-test.false n cycle
+
+-- it was read once more than there are layers so far
+pub returns-then-least-level-clause-times : goal.returns-then-least-level-clause-times
+returns-then-least-level-clause-times g c =
+    let last = c.best-least.ensures.answer in
+    let low = c.if-least-level.true in (
+      c.levels.level + 1,
+      g.met.B.BoundSource.times_more _ _ _ _ _ c.levels.invariant.times c.best-least.ensures.times,
+      inl (omega (arith, last, low)),
+    )
+
+pub returns-then-state-clause-times : goal.returns-then-state-clause-times
+returns-then-state-clause-times g c = (
+  c.levels.level + 1,
+  g.met.B.BoundSource.times_more _ _ _ _ _ c.levels.invariant.times c.best-least.ensures.times,
+  refl,
+)
+
+pub returns-clause-times : goal.returns-clause-times
+returns-clause-times g c = (
+  c.levels.level,
+  c.levels.invariant.times,
+  inr (nothing_left (graph_of c.args.graph.now) c.args.element c.levels.head c.levels.level c.levels.state
+      c.levels.invariant.layered.levelled c.levels-test.false),
+)

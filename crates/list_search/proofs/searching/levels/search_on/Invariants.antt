@@ -10,6 +10,7 @@ invariant-levels g l = record {
   fits : l.level + 1 < 2 ^ 32;
   bound : g.B.BoundSource.last l.bound ≤ g.B.BoundSource.last l.fn.bound;
   reads : g.B.BoundSource.reads l.fn.bound l.bound;
+  times : g.B.BoundSource.read_times l.fn.bound l.level l.bound;
   cost : l.looked + sum l.state.marks.items ≤ place_count l.graph + l.head;
   work : l.head < l.state.tail → 2 * l.level ≤ l.looked;
   begun : l.level ≡ 0 → l.head < l.state.tail;
