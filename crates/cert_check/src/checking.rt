@@ -16,11 +16,12 @@ use trace_text::{Cause, read};
 /// first line names; where not, the first reason.
 ///
 /// It searches nothing. Beyond reading the texts and looking for a fault, a step of a certificate costs the
-/// response of its operation, and a row a step for each of its words, and for each layer and each name that
-/// is not in the last layer `n / 64`, n being the number of elements of the recording; one of more than n
-/// layers also the sorting of n depths, about `n * log n` steps. So it is in both versions; the rows of
-/// version two have about half as many names. For orders and rows only those responses are looked at that
-/// cover all: each other one is a subsequence of one of them. For the rows a table is made of these once:
+/// response of its operation, and a row a step for each of its words, and `n / 64` for itself, for each name
+/// that is not in the last layer and for each layer behind one that has names, n being the number of elements
+/// of the recording; one of more than n layers also the sorting of n depths, about `n * log n` steps. So it
+/// is in both versions; the rows of version two have about half as many names. For orders and rows only those
+/// responses are looked at that cover all: each other one is a subsequence of one of them. For the rows a
+/// table is made of these once:
 /// each costs `n / 64` steps, and each of its places a step, and one for each new element behind it, up to
 /// 64; where there are more, or its own is new, `n / 64` steps. New is an element that the one before has
 /// not, or in another order. It starts no thread. Its memory is linear in the texts but for that table, which

@@ -69,9 +69,9 @@ fn first_of(version: Version, source: u32) -> u32
 
 /// Whether the row of the element with this number meets the layer rule of the version. In version two it
 /// does not where it has an element that is numbered below, and nothing is asked of these elements. It costs
-/// a step for each word of the row, and for each layer and each name that is not in the last layer `n / 64`,
-/// n being the number of elements; where `k - 1` is more than n, about `n * log n` steps besides, to sort the
-/// depths.
+/// a step for each word of the row, and `n / 64` for the row, for each name that is not in the last layer and
+/// for each layer behind one that has names, n being the number of elements; where `k - 1` is more than n,
+/// about `n * log n` steps besides, to sort the depths.
 ///
 /// Before and after a row that meets the rule no depth is noted.
 fn meets_rule(
