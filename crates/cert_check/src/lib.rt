@@ -17,6 +17,7 @@ mod checking;
 mod cycle;
 mod faults;
 mod found;
+mod guesses;
 mod judging;
 mod laws;
 mod numbered;
