@@ -21,13 +21,12 @@ use trace_text::{Cause, read};
 /// of the recording; one of more than n layers also the sorting of n depths, about `n * log n` steps. So it
 /// is in both versions; the rows of version two have about half as many names. For orders and rows only those
 /// responses are looked at that cover all: each other one is a subsequence of one of them. For the rows a
-/// table is made of these once:
-/// each costs `n / 64` steps, and each of its places a step, and one for each new element behind it, up to
-/// 64; where there are more, or its own is new, `n / 64` steps. New is an element that the one before has
-/// not, or in another order. It starts no thread. Its memory is linear in the texts but for that table, which
-/// takes `n * n / 8` bytes, 2 MiB for 4,096 elements and 512 MiB for 65,536. Out of memory is answered only
-/// where a line of the trace takes memory, or where the trace spells a recording and the certificate's text
-/// a certificate.
+/// table is made of these once, when a row has its source and its words are right: each costs `n / 64` steps,
+/// and each of its places a step, and one for each new element behind it, up to 64; where there are more, or
+/// its own is new, `n / 64` steps. New is an element that the one before has not, or in another order. It
+/// starts no thread. Its memory is linear in the texts but for that table, which takes `n * n / 8` bytes, 2
+/// MiB for 4,096 elements and 512 MiB for 65,536. Out of memory is answered only where a line of the trace
+/// takes memory, or where the trace spells a recording and the certificate's text a certificate.
 pub fn check<H: Threads + Sync>(
     rt: &H,
     alloc: Global,
