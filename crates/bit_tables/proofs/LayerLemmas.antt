@@ -125,6 +125,22 @@ stands_from first layers ok m x (i, low, (k, inside, at)) =
           absurd (omega arith)
     ]
 
+-- one layer more that has no number: nothing more is shown from the least on, and so it is in the set if what
+-- was shown before is
+pub settled_step : (rows : List (List ℕ)) (layer shown shown' standing : List ℕ) (first least : ℕ)
+    → length layer ≡ 0 → least ≤ first → (y : ℕ) → (y < first → Has standing y)
+    → (Has shown y → Has standing y)
+    → (least ≤ y → Has shown' y ↔ (Has shown y ⊎ ((x : ℕ) × Contains layer x × Has (row_of rows x) y)))
+    → Has shown' y → Has standing y
+settled_step rows layer shown shown' standing first least none low_least y below before more has =
+    elim (cases_lt y first) [
+      | inl low ↦ below low
+      | inr from ↦ elim ((more (omega (arith, low_least, from))).0 has) [
+        | inl was ↦ before was
+        | inr s ↦ absurd (let lt = s.1.1 in omega (arith, lt, none))
+      ]
+    ]
+
 -- before the first layer
 pub tested_none : (first least : ℕ) (layers rows : List (List ℕ)) (standing shown : List ℕ)
     → ((y : ℕ) → Has standing y ↔ (y < first)) → ((y : ℕ) → ¬ Has shown y)

@@ -51,8 +51,9 @@ fn layers_by_depth(
 /// Whether the numbers from `first` on, below `n`, at these depths of at most the count, meet the layer rule
 /// for a source, as `are_deep` asks it. The count is at most two more than twice the number of the depths.
 ///
-/// It takes `n / 64` steps for each layer and for each noted number that is not in the last layer, a step for
-/// each other one, and memory for these numbers, as many layers as the count and two sets.
+/// It takes `n / 64` steps for each noted number that is not in the last layer and for each layer behind one
+/// that has numbers, a step for each other number and layer, and memory for these numbers, as many layers as
+/// the count and two sets.
 fn are_deep_in_layers(
     alloc: Global,
     table: &AfterTable,
@@ -89,8 +90,9 @@ fn are_deep_in_layers(
 /// `first`, and of their depths, nothing is asked: the lists are taken with these numbers left out. Noted are
 /// the numbers of a lesser depth than the count, so that the others are not gone through.
 ///
-/// It takes `n / 64` steps for each layer and for each noted number that is not in the last layer, a step for
-/// each other one, and memory for these numbers, the layers and two sets. There are as many layers as the
+/// It takes `n / 64` steps for each noted number that is not in the last layer and for each layer behind one
+/// that has numbers, a step for each other number and layer, and memory for these numbers, the layers and two
+/// sets. There are as many layers as the
 /// count where that is at most `n`, and else at most `2 * n + 2`, found in about `n * log n` further steps.
 /// So memory is linear in `n`, whatever the count, where no number is noted twice.
 pub fn are_deep(

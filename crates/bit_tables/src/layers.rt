@@ -72,14 +72,23 @@ fn is_shown(shown: &BitSet, table: &AfterTable, layer: &[u32], number: usize) ->
     is_after(table, layer, number)
 }
 
+/// Whether all numbers that are shown stand. Where that is known it takes one step.
+fn all_stand(shown: &BitSet, standing: &BitSet, is_settled: bool) -> bool
+    requires len { length shown.now ≡ length standing.now }
+    requires settled { is_settled ≡ true → (y : ℕ) → Has shown.now y → Has standing.now y }
+    ensures { IsTrue result ↔ ((y : ℕ) → Has shown.now y → Has standing.now y) }
+{
+    is_settled || shown.is_subset(standing)
+}
+
 /// Whether layers of numbers from `first` on, below `n`, meet the layer rule for a source: no number is more
 /// than one layer deeper than one that stands before it in some list of the table, and what stands before the
 /// source is in no layer. A number in no layer counts as one in a layer behind the last. Of the numbers below
 /// `first` nothing is asked, as if they stood in no list.
 ///
-/// It takes `n / 64` steps for each layer and each number in the layers, fewer where few numbers count, but
-/// one step for each number of the last layer, of which no more is asked than whether it stands before the
-/// source; and two sets of memory.
+/// It takes `n / 64` steps for each number in the layers and for each layer behind one that has numbers, fewer
+/// where few numbers count, but one step for each number of the last layer, of which no more is asked than
+/// whether it stands before the source, and one for each layer behind an empty one; and two sets of memory.
 pub fn meets_rule(
     alloc: Global,
     table: &AfterTable,
@@ -101,16 +110,19 @@ pub fn meets_rule(
     standing.add_below(first);
     let mut shown = BitSet::new(alloc, n)?;
     let least = first.min(source);
+    // Whether it is known that all that is shown stands.
+    let mut is_settled = true;
     'layers: for i in 0..layers.len() {
         let layer = &layers[i];
         add_layer(&mut standing, layer);
-        if !shown.is_subset(&standing) {
+        if !all_stand(&shown, &standing, is_settled) {
             return Ok(false);
         }
         if i + 1 == layers.len() {
             return Ok(!is_shown(&shown, table, layer, source));
         }
         add_successors(&mut shown, table, layer, least);
+        is_settled = layer.is_empty();
     }
     // There is no layer.
     Ok(true)

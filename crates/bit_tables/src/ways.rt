@@ -1,11 +1,11 @@
 //! The numbers by how many steps lead to them, along a table.
 
 ghost use Rattle.std.specs.Prelude.{◌≡◌, ◌<◌, ◌≤◌, ◌+◌, ◌/◌, ◌⊎◌, ◌↔◌, ℕ};
-ghost use Rattle.std.specs.Prelude.{All, Contains, IfOk, length, vec_len};
+ghost use Rattle.std.specs.Prelude.{All, Contains, IfOk, length, true, vec_len};
 ghost use Rattle.bit_tables.specs.Sets.{Has};
 ghost use Rattle.bit_tables.specs.Lists.{HaveWidth, row_of};
 ghost use Rattle.bit_tables.specs.Rule.{layer_at};
-ghost use Rattle.bit_tables.specs.Ways.{IsLayerAt};
+ghost use Rattle.bit_tables.specs.Ways.{AreThoseBelow, IsLayerAt};
 
 use super::bits::BitSet;
 use super::layers::{add_layer, add_successors};
@@ -45,12 +45,34 @@ fn add_unless_last(
     }
 }
 
+/// The numbers that are shown and not reached, from the first that counts on. Where it is known that there are
+/// none, that takes one step.
+fn next_layer(
+    alloc: Global,
+    shown: &BitSet,
+    reached: &BitSet,
+    first: u32,
+    n: u32,
+    is_settled: bool,
+) -> Result<Vec<u32>, AllocError>
+    requires within { first ≤ n }
+    requires below { (y : ℕ) → y < first → Has shown.now y → Has reached.now y }
+    requires settled { is_settled ≡ true → (y : ℕ) → y < n → Has shown.now y → Has reached.now y }
+    ensures { IfOk result (λ v. AreThoseBelow (λ x. Has shown.now x × (¬ Has reached.now x)) n v.items) }
+{
+    if is_settled {
+        return Ok(Vec::new(alloc));
+    }
+    shown.difference_from(alloc, reached, first, n)
+}
+
 /// So many layers of the numbers below `n`, from the first that counts on: layer d holds those that d steps
 /// lead to from the source, and no fewer, in rising order. A step leads to what the table has of a number,
 /// and all steps go through numbers that count.
 ///
-/// It takes `n / 64` steps for each layer and for each number in the layers but the last, fewer where few
-/// numbers count, and memory for these numbers and two sets.
+/// It takes `n / 64` steps for each layer behind one that has numbers and for each number in the layers but
+/// the last, fewer where few numbers count, one for each layer behind an empty one, and memory for these
+/// numbers, the layers and two sets.
 pub fn layers_from(
     alloc: Global,
     table: &AfterTable,
@@ -71,10 +93,13 @@ pub fn layers_from(
     let mut shown = BitSet::new(alloc, n as usize)?;
     shown.insert(source as usize);
     let mut layers = Vec::new(alloc);
+    // Whether it is known that all that is shown was reached.
+    let mut is_settled = false;
     for d in 0..count {
-        let layer = shown.difference_from(alloc, &reached, first, n)?;
+        let layer = next_layer(alloc, &shown, &reached, first, n, is_settled)?;
         add_layer(&mut reached, layer.as_slice());
         add_unless_last(&mut shown, table, layer.as_slice(), first, d, count);
+        is_settled = layer.is_empty();
         layers.push(layer)?;
     }
     Ok(layers)

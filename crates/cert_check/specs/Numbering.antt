@@ -9,6 +9,7 @@ use Rattle.specification.specs.Faults.{IsSound}
 use Rattle.specification.specs.Elements.{elements, number_in, numbers_in}
 use Rattle.specification.specs.Members.{Once}
 use Rattle.specification.specs.Versions.{Version, one, two}
+use Rattle.bit_tables.specs.Lists.{IsTableOf}
 use Rattle.element_numbers.specs.Cuts.{rows_of, IsCut}
 use Rattle.element_numbers.specs.Covering.{AreCovering}
 use Rattle.cert_check.specs.Values.{IsGradualFrom, IsDeepFrom}
@@ -45,6 +46,10 @@ pub record IsNumbering (t : Numbered) : Type 0 where
 -- each place has a number below the bound
 abbrev pub AreWithin : ℕ → Numbered → Type 0
 AreWithin bound t = All (λ list. All (λ x. x < bound) list) (lists_of t)
+
+-- a table of which elements stand after which in the lists
+abbrev pub IsTableFor : Numbered → List (List ℕ) → Type 0
+IsTableFor t rows = IsTableOf (length t.names.items) (lists_of t) rows
 
 -- the elements of a sound recording, and the places of operations that cover all
 pub record IsOf (h : History) (t : Numbered) : Type 0 where

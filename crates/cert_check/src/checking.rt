@@ -16,17 +16,17 @@ use trace_text::{Cause, read};
 /// first line names; where not, the first reason.
 ///
 /// It searches nothing. Beyond reading the texts and looking for a fault, a step of a certificate costs the
-/// response of its operation, and a row a step for each of its words, and for each layer and each name that
-/// is not in the last layer `n / 64`, n being the number of elements of the recording; one of more than n
-/// layers also the sorting of n depths, about `n * log n` steps. So it is in both versions; the rows of
-/// version two have about half as many names. For orders and rows only those responses are looked at that
-/// cover all: each other one is a subsequence of one of them. For the rows a table is made of these once:
-/// each costs `n / 64` steps, and each of its places a step, and one for each new element behind it, up to
-/// 64; where there are more, or its own is new, `n / 64` steps. New is an element that the one before has
-/// not, or in another order. It starts no thread. Its memory is linear in the texts but for that table, which
-/// takes `n * n / 8` bytes, 2 MiB for 4,096 elements and 512 MiB for 65,536. Out of memory is answered only
-/// where a line of the trace takes memory, or where the trace spells a recording and the certificate's text
-/// a certificate.
+/// response of its operation, and a row a step for each of its words, and `n / 64` for itself, for each name
+/// that is not in the last layer and for each layer behind one that has names, n being the number of elements
+/// of the recording; one of more than n layers also the sorting of n depths, about `n * log n` steps. So it
+/// is in both versions; the rows of version two have about half as many names. For orders and rows only those
+/// responses are looked at that cover all: each other one is a subsequence of one of them. For the rows a
+/// table is made of these once, when a row has its source and its words are right: each costs `n / 64` steps,
+/// and each of its places a step, and one for each new element behind it, up to 64; where there are more, or
+/// its own is new, `n / 64` steps. New is an element that the one before has not, or in another order. It
+/// starts no thread. Its memory is linear in the texts but for that table, which takes `n * n / 8` bytes, 2
+/// MiB for 4,096 elements and 512 MiB for 65,536. Out of memory is answered only where a line of the trace
+/// takes memory, or where the trace spells a recording and the certificate's text a certificate.
 pub fn check<H: Threads + Sync>(
     rt: &H,
     alloc: Global,
@@ -56,8 +56,9 @@ pub fn check<H: Threads + Sync>(
 ///
 /// It costs what `check` does but for the reading of the trace. Beside the recording and the certificate's
 /// text it keeps what is visible in the recording, the numbers of the elements, those responses that cover
-/// all as numbers, the table and the depths for the rows, and of one row at a time the numbers that have a
-/// depth, the layers (at most `2 * n + 2` lists) and the two sets of `are_deep`.
+/// all as numbers, for the rows the table, the depths and 20 bytes for each element by which names are found
+/// again, and of one row at a time the numbers that have a depth, the layers (at most `2 * n + 2` lists) and
+/// the two sets of `are_deep`.
 pub fn check_recording<H: Threads + Sync>(
     rt: &H,
     alloc: Global,

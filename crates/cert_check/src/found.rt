@@ -10,6 +10,15 @@ const SLOTS: usize = 1_048_576;
 /// From how many steps on places are kept: fewer are judged sooner without.
 const MANY: u32 = 4_096;
 
+/// What is kept of a response.
+#[derive(Drop)]
+struct Places {
+    /// How often the response was gone through from its first name on.
+    walks: u32,
+    /// Its places in order of their names. It is empty until walks have cost as much as it takes to sort them.
+    sorted: Vec<u32>,
+}
+
 /// Where names stand in responses of operations, kept in two ways. Both give guesses: a place is believed
 /// only where the name stands there.
 #[derive(Drop)]
@@ -18,9 +27,8 @@ pub struct FoundPlaces {
     /// Where a name was found last, by operation and name. Names share slots, and who writes the trace can
     /// choose names that share one.
     slots: Vec<u32>,
-    /// The places of each response in order of its names, by replica and number of the operation. It is empty
-    /// until a step was found to be right in that response.
-    sorted: Vec<Vec<Vec<u32>>>,
+    /// What is kept of each response, by replica and number of the operation.
+    kept: Vec<Vec<Places>>,
 }
 
 impl FoundPlaces {
@@ -35,7 +43,7 @@ impl FoundPlaces {
         FoundPlaces {
             alloc,
             slots,
-            sorted: Vec::new(alloc),
+            kept: Vec::new(alloc),
         }
     }
 
@@ -49,13 +57,16 @@ impl FoundPlaces {
 
     /// Where a name stands in the response of an operation, if that is known: a search by halving.
     pub fn place(&self, by: OpName, response: &Response, name: &[u8]) -> Option<usize> {
-        let places = self.sorted.get(by.replica as usize)?.get(by.n as usize)?;
-        let found = places.binary_search_by(|place| compare(response, *place, Some(name)));
-        let place = places.get(found.ok()?)?;
+        let places = self.kept.get(by.replica as usize)?.get(by.n as usize)?;
+        let found = places
+            .sorted
+            .binary_search_by(|place| compare(response, *place, Some(name)));
+        let place = places.sorted.get(found.ok()?)?;
         Some(*place as usize)
     }
 
-    /// Notes the places of a response's names, and of these two that they were found last.
+    /// Notes that a response was gone through, and where its places are sorted, that these two names were found
+    /// there last.
     pub fn note(&mut self, by: OpName, response: &Response, from: &[u8], to: &[u8]) {
         if self.slots.is_empty() {
             return;
@@ -78,31 +89,59 @@ impl FoundPlaces {
         }
     }
 
-    /// Sorts the places of a response by their names, unless that was done. Where memory is wanted nothing is
-    /// noted.
+    /// Sorts the places of a response by their names, where that was not done and pays by now. Where memory is
+    /// wanted nothing is noted.
     fn sort(&mut self, by: OpName, response: &Response) {
         let alloc = self.alloc;
-        let Some(of_replica) = member(&mut self.sorted, alloc, by.replica) else {
+        let Some(kept) = of_replica(&mut self.kept, alloc, by.replica) else {
             return;
         };
-        let Some(places) = member(of_replica, alloc, by.n) else {
+        let Some(places) = of_operation(kept, alloc, by.n) else {
             return;
         };
-        if places.is_empty() {
-            if let Some(sorted) = sorted_places(alloc, response) {
-                *places = sorted;
-            }
+        if !places.sorted.is_empty() {
+            return;
+        }
+        if places.walks < halvings(response.len()) {
+            places.walks += 1;
+            return;
+        }
+        if let Some(sorted) = sorted_places(alloc, response) {
+            places.sorted = sorted;
         }
     }
 }
 
-/// The list with this number, once there are lists up to it.
-fn member<T: Drop>(lists: &mut Vec<Vec<T>>, alloc: Global, number: u32) -> Option<&mut Vec<T>> {
-    let at = number as usize;
-    for _ in lists.len()..at + 1 {
-        lists.push(Vec::new(alloc)).ok()?;
+/// How often a number can be halved until nothing is left: so many walks through a response of that many names
+/// cost about what sorting it does.
+fn halvings(count: usize) -> u32 {
+    u64::BITS.saturating_sub((count as u64).leading_zeros())
+}
+
+/// What is kept of the responses of a replica, once there is something of each up to it.
+fn of_replica(
+    kept: &mut Vec<Vec<Places>>,
+    alloc: Global,
+    replica: u32,
+) -> Option<&mut Vec<Places>> {
+    let at = replica as usize;
+    for _ in kept.len()..at + 1 {
+        kept.push(Vec::new(alloc)).ok()?;
     }
-    lists.get_mut(at)
+    kept.get_mut(at)
+}
+
+/// What is kept of the response of the operation with this number, once there is something of each up to it.
+fn of_operation(kept: &mut Vec<Places>, alloc: Global, n: u32) -> Option<&mut Places> {
+    let at = n as usize;
+    for _ in kept.len()..at + 1 {
+        let places = Places {
+            walks: 0,
+            sorted: Vec::new(alloc),
+        };
+        kept.push(places).ok()?;
+    }
+    kept.get_mut(at)
 }
 
 /// The places of a response in order of their names; none where memory is wanted.

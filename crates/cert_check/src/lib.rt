@@ -3,9 +3,9 @@
 //! No crate that searches stands below this one: who trusts its contract trusts no search.
 //!
 //! - It keeps what long responses showed. A step costs the response that it cites. But where a certificate
-//!   has 4,096 steps or more, the places of a response's names are kept once a step was right in it. A later
-//!   step then costs a search by halving for each name, or one look into 4 MB of slots. Without that a
-//!   gigabyte of right steps in long responses would take minutes.
+//!   has 4,096 steps or more, the places of a response's names are kept once as many steps were right in it as
+//!   cost what sorting them does. A later step then costs a search by halving for each name, or one look into
+//!   4 MB of slots. Without that a gigabyte of right steps in long responses would take minutes.
 //! - It starts no thread. Near the limit on names a second thread took 7 and 8 milliseconds of processor
 //!   more, a tenth of what the checker does beyond reading (two recordings, least of seven runs, 2026-11-26).
 //!   It asks `contents_check::check` with one worker, so it has the handle for threads all the same: the
@@ -17,6 +17,7 @@ mod checking;
 mod cycle;
 mod faults;
 mod found;
+mod guesses;
 mod judging;
 mod laws;
 mod numbered;

@@ -1,5 +1,6 @@
 //! A recording's elements by number, and responses that cover all as lists of numbers.
 
+use super::guesses::Guesses;
 use super::row_depths::RowDepths;
 use super::values::is_rising;
 use element_numbers::{Covering, NameNumbers, NumberedElements, Rows};
@@ -78,14 +79,23 @@ impl Numbered {
         }
     }
 
-    /// The number of the element with this name. The number that is likely is tried first, for speed alone.
-    fn find(&self, likely: u32, word: &[u8]) -> Option<u32>
+    /// The number of the element with this name. The number that is likely, and then the guesses, are tried
+    /// first, for speed alone.
+    fn find(&self, guesses: &Guesses, likely: u32, word: &[u8]) -> Option<u32>
         requires { IsNumbering self.now }
         ensures { MatchOption result (IsName word.now → number_in self.now.names.items word.now ≡ None)
             (λ n. slice_get self.now.names.items n ≡ Some word.now) }
     {
         if self.is_named(likely, word) {
             return Some(likely);
+        }
+        let instead = guesses.instead_of(likely);
+        if self.is_named(instead, word) {
+            return Some(instead);
+        }
+        let last = guesses.last_of(word, likely);
+        if self.is_named(last, word) {
+            return Some(last);
         }
         let Ok(name) = name_of(word) else {
             return None;
@@ -101,6 +111,7 @@ impl Numbered {
     fn note(
         &self,
         values: &mut [u32],
+        guesses: &Guesses,
         likely: u32,
         word: &[u8],
         value: u32,
@@ -116,7 +127,7 @@ impl Numbered {
             (λ _. Holds self.now.names.items unset (noted ++ (word.now, value) ∷ []) values.new) }
         ensures written { IfSome result (λ n. IsWritten values.old unset n value values.new) }
     {
-        let Some(number) = self.find(likely, word) else {
+        let Some(number) = self.find(guesses, likely, word) else {
             return None;
         };
         if values[number as usize] != unset {
@@ -158,9 +169,17 @@ impl Numbered {
                 likely: at.likely,
             }));
         }
-        let Some(number) = self.note(&mut row.depths, at.likely, word, at.depth, unset) else {
+        let Some(number) = self.note(
+            &mut row.depths,
+            &row.guesses,
+            at.likely,
+            word,
+            at.depth,
+            unset,
+        ) else {
             return Ok(None);
         };
+        row.guesses.note(at.likely, word, number);
         row.noted.push(number)?;
         Ok(Some(Place {
             depth: at.depth,
@@ -204,7 +223,7 @@ impl Numbered {
 
     /// Notes the place of each name of an order, whose words these are. False where they are no permutation
     /// of the elements, whose count this is.
-    fn note_order(&self, ranks: &mut [u32], count: u32, words: &[u8]) -> bool
+    fn note_order(&self, guesses: &Guesses, ranks: &mut [u32], count: u32, words: &[u8]) -> bool
         requires numbering { IsNumbering self.now }
         requires count { count ≡ length self.now.names.items }
         requires fresh { Holds self.now.names.items count [] ranks.old }
@@ -223,7 +242,7 @@ impl Numbered {
             if place == count {
                 return false;
             }
-            let Some(number) = self.note(ranks, likely, word, place, count) else {
+            let Some(number) = self.note(ranks, guesses, likely, word, place, count) else {
                 return false;
             };
             place += 1;
@@ -247,7 +266,9 @@ impl Numbered {
     {
         let count = self.names.len() as u32;
         let mut ranks = Vec::from_elem(alloc, count, self.names.len())?;
-        if self.note_order(&mut ranks, count, names) {
+        // Each name of an order stands once.
+        let guesses = Guesses::none(alloc);
+        if self.note_order(&guesses, &mut ranks, count, names) {
             Ok(Some(ranks))
         } else {
             Ok(None)

@@ -4,6 +4,7 @@ ghost use Rattle.std.specs.Prelude.{◌≡◌, ◌≤◌, All, IfOk, length};
 ghost use Rattle.bit_tables.specs.Rule.{HaveDepths};
 ghost use Rattle.cert_check.specs.RowDepths.{IsUnset};
 
+use super::guesses::Guesses;
 use events::Memory;
 use std::alloc::Global;
 
@@ -13,6 +14,8 @@ use std::alloc::Global;
 pub struct RowDepths {
     pub depths: Vec<u32>,
     pub noted: Vec<u32>,
+    /// They stay from row to row.
+    pub guesses: Guesses,
 }
 
 impl RowDepths {
@@ -21,9 +24,11 @@ impl RowDepths {
         ensures { IfOk result (IsUnset count unset) }
     {
         let depths = Vec::from_elem(alloc, unset, count)?;
+        let guesses = Guesses::new(alloc, count)?;
         Ok(RowDepths {
             depths,
             noted: Vec::new(alloc),
+            guesses,
         })
     }
 

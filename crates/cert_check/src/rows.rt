@@ -1,17 +1,19 @@
 //! Rows of layers.
 
-ghost use Rattle.std.specs.Prelude.{◌≡◌, ◌↔◌, ◌-◌, ◌<◌, ◌≤◌, [], ℕ, All, IfNone, IfOk, IsTrue, List};
-ghost use Rattle.std.specs.Prelude.{MatchOption, Some, length, map, slice_get};
+ghost use Rattle.std.specs.Prelude.{◌≡◌, ◌↔◌, ◌-◌, ◌^◌, ◌<◌, ◌≤◌, [], ℕ, All, IfNone, IfOk, IfSome};
+ghost use Rattle.std.specs.Prelude.{IsTrue, List, MatchOption, OnOk, Some, length, map, slice_get};
+ghost use Rattle.std.specs.Prelude.{slice_index_or};
 ghost use Rattle.events.specs.Names.{IsName};
 ghost use Rattle.specification.specs.LayerRule.{Row};
 ghost use Rattle.specification.specs.Lines.{text_of};
 ghost use Rattle.specification.specs.CertificateText.{IsRow, row_line};
 ghost use Rattle.specification.specs.ValidCertificate.{HasSource};
 ghost use Rattle.bit_tables.specs.Lists.{IsTableOf};
+ghost use Rattle.bit_tables.specs.Rule.{HaveDepths, MeetsRule};
 ghost use Rattle.format_words.specs.Words.{words_behind};
 ghost use Rattle.certificate_text.specs.CertificateOf.{version_in};
 ghost use Rattle.element_numbers.specs.Cuts.{IsCut};
-ghost use Rattle.cert_check.specs.Numbering.{IsNumbering, AreWithin, first_of, lists_of};
+ghost use Rattle.cert_check.specs.Numbering.{IsNumbering, IsTableFor, AreWithin, first_of, lists_of};
 ghost use Rattle.cert_check.specs.Judged.{TellsLayerRule, TellsRow, TellsRows};
 ghost use Rattle.cert_check.specs.RowDepths.{IsUnset};
 ghost use Rattle.cert_check.specs.RowWords.{SaysRow};
@@ -69,15 +71,15 @@ fn first_of(version: Version, source: u32) -> u32
 
 /// Whether the row of the element with this number meets the layer rule of the version. In version two it
 /// does not where it has an element that is numbered below, and nothing is asked of these elements. It costs
-/// a step for each word of the row, and for each layer and each name that is not in the last layer `n / 64`,
-/// n being the number of elements; where `k - 1` is more than n, about `n * log n` steps besides, to sort the
-/// depths.
+/// a step for each word of the row, and `n / 64` for the row, for each name that is not in the last layer and
+/// for each layer behind one that has names, n being the number of elements; where `k - 1` is more than n,
+/// about `n * log n` steps besides, to sort the depths.
 ///
 /// Before and after a row that meets the rule no depth is noted.
 fn meets_rule(
     alloc: Global,
     numbered: &Numbered,
-    table: &AfterTable,
+    table: &mut Option<AfterTable>,
     version: Version,
     k: u32,
     source: u32,
@@ -85,8 +87,9 @@ fn meets_rule(
     depths: &mut RowDepths,
 ) -> Result<bool, Memory>
     requires numbering { IsNumbering numbered.now }
+    requires cut { IsCut numbered.now.places }
     requires within { AreWithin (length numbered.now.names.items) numbered.now }
-    requires table { IsTableOf (length numbered.now.names.items) (lists_of numbered.now) table.now }
+    requires table { IfSome table.old (IsTableFor numbered.now) }
     requires long { 2 ≤ k }
     requires element { source < length numbered.now.names.items }
     requires fresh { IsUnset (length numbered.now.names.items) (k - 1) depths.old }
@@ -94,6 +97,7 @@ fn meets_rule(
         → TellsLayerRule (version_in version) numbered.now k source row meets) }
     ensures fresh { IfOk result (λ meets. IsTrue meets
         → IsUnset (length numbered.now.names.items) (k - 1) depths.new) }
+    ensures table { IfOk result (λ _. IfSome table.new (IsTableFor numbered.now)) }
 {
     let first = first_of(version, source);
     let is_noted = numbered.note_row(depths, k - 1, words)?;
@@ -103,15 +107,7 @@ fn meets_rule(
     if !are_from(&depths.noted, first) {
         return Ok(false);
     }
-    let deep = are_deep(
-        alloc,
-        table,
-        &depths.depths,
-        &depths.noted,
-        k - 1,
-        first,
-        source,
-    )?;
+    let deep = are_deep_by_table(alloc, numbered, table, depths, k - 1, first, source)?;
     depths.clear(k - 1);
     Ok(deep)
 }
@@ -120,7 +116,7 @@ fn meets_rule(
 fn row_fault(
     alloc: Global,
     numbered: &Numbered,
-    table: &AfterTable,
+    table: &mut Option<AfterTable>,
     version: Version,
     k: u32,
     line: &[u8],
@@ -128,8 +124,9 @@ fn row_fault(
     depths: &mut RowDepths,
 ) -> Result<Option<Reason>, Memory>
     requires numbering { IsNumbering numbered.now }
+    requires cut { IsCut numbered.now.places }
     requires within { AreWithin (length numbered.now.names.items) numbered.now }
-    requires table { IsTableOf (length numbered.now.names.items) (lists_of numbered.now) table.now }
+    requires table { IfSome table.old (IsTableFor numbered.now) }
     requires long { 2 ≤ k }
     requires element { i < length numbered.now.names.items }
     requires fresh { IsUnset (length numbered.now.names.items) (k - 1) depths.old }
@@ -138,6 +135,7 @@ fn row_fault(
         → TellsRow (version_in version) numbered.now k rows i found) }
     ensures fresh { IfOk result (λ found. IfNone found
         (IsUnset (length numbered.now.names.items) (k - 1) depths.new)) }
+    ensures table { IfOk result (λ _. IfSome table.new (IsTableFor numbered.now)) }
 {
     let source = numbered.names[i as usize];
     let words = words_of_row(line);
@@ -190,14 +188,69 @@ fn after_table(alloc: Global, numbered: &Numbered) -> Result<AfterTable, Memory>
     Ok(table)
 }
 
+/// Makes the table of which elements are shown after which, unless that was done.
+fn make_table(
+    alloc: Global,
+    numbered: &Numbered,
+    table: &mut Option<AfterTable>,
+) -> Result<(), Memory>
+    requires cut { IsCut numbered.now.places }
+    requires within { AreWithin (length numbered.now.names.items) numbered.now }
+    requires table { IfSome table.old (IsTableFor numbered.now) }
+    ensures { OnOk result (MatchOption table.new ⊥ (IsTableFor numbered.now)) }
+{
+    if table.is_none() {
+        let made = after_table(alloc, numbered)?;
+        *table = Some(made);
+    }
+    Ok(())
+}
+
+/// What `are_deep` answers by the table, which is made where it was not.
+fn are_deep_by_table(
+    alloc: Global,
+    numbered: &Numbered,
+    table: &mut Option<AfterTable>,
+    depths: &RowDepths,
+    most: u32,
+    first: u32,
+    source: u32,
+) -> Result<bool, Memory>
+    requires cut { IsCut numbered.now.places }
+    requires within { AreWithin (length numbered.now.names.items) numbered.now }
+    requires table { IfSome table.old (IsTableFor numbered.now) }
+    requires few { length numbered.now.names.items < 2 ^ 32 }
+    requires size { length depths.now.depths.items ≡ length numbered.now.names.items }
+    requires first { first ≤ length numbered.now.names.items }
+    requires noted { HaveDepths depths.now.depths.items most depths.now.noted.items }
+    requires most { All (λ d. d ≤ most) depths.now.depths.items }
+    ensures table { IfOk result (λ _. IfSome table.new (IsTableFor numbered.now)) }
+    ensures deep { IfOk result (λ deep. IsTrue deep ↔ MeetsRule (lists_of numbered.now) first source most
+        (λ x. slice_index_or depths.now.depths.items x most)) }
+{
+    make_table(alloc, numbered, table)?;
+    let Some(made) = table else { unreachable!() };
+    let deep = are_deep(
+        alloc,
+        made,
+        &depths.depths,
+        &depths.noted,
+        most,
+        first,
+        source,
+    )?;
+    Ok(deep)
+}
+
 /// The first thing that is wrong with the rows of a certificate for `k` of 3 and more: one row after the
 /// other, in order of numbers, and then a row too many. The rows are given by their lines.
 ///
 /// It makes a table of which elements are shown after which, `n * n / 8` bytes for n elements, of the
-/// responses that cover all. Each of these costs `n / 64` steps, and each of its places a step, and one for
-/// each new element behind it, up to 64; where there are more, or its own is new, `n / 64` steps. New is an
-/// element that the one before has not, or in another order. The depths of one row after the other are noted
-/// in the same memory, in n steps for all rows, and then for each row as `meets_rule` says.
+/// responses that cover all, once a row is found whose source and words are right. Each of these costs
+/// `n / 64` steps, and each of its places a step, and one for each new element behind it, up to 64; where
+/// there are more, or its own is new, `n / 64` steps. New is an element that the one before has not, or in
+/// another order. The depths of one row after the other are noted in the same memory, in n steps for all
+/// rows, and then for each row as `meets_rule` says.
 pub fn rows_fault(
     alloc: Global,
     numbered: &Numbered,
@@ -213,24 +266,25 @@ pub fn rows_fault(
         → rows.now ≡ text_of (map row_line layers)
         → TellsRows (version_in version) numbered.now k layers found) }
 {
-    let table = after_table(alloc, numbered)?;
+    let mut table = None;
     let mut depths = RowDepths::new(alloc, numbered.names.len(), k - 1)?;
-    first_row_fault(alloc, numbered, &table, version, k, rows, &mut depths)
+    first_row_fault(alloc, numbered, &mut table, version, k, rows, &mut depths)
 }
 
 /// The first thing that is wrong with the rows, by a table of which elements are shown after which.
 fn first_row_fault(
     alloc: Global,
     numbered: &Numbered,
-    table: &AfterTable,
+    table: &mut Option<AfterTable>,
     version: Version,
     k: u32,
     rows: &[u8],
     depths: &mut RowDepths,
 ) -> Result<Option<Reason>, Memory>
     requires numbering { IsNumbering numbered.now }
+    requires cut { IsCut numbered.now.places }
     requires within { AreWithin (length numbered.now.names.items) numbered.now }
-    requires table { IsTableOf (length numbered.now.names.items) (lists_of numbered.now) table.now }
+    requires table { IfSome table.old (IsTableFor numbered.now) }
     requires long { 2 ≤ k }
     requires fresh { IsUnset (length numbered.now.names.items) (k - 1) depths.old }
     ensures { IfOk result (λ found. (layers : List Row) → All (IsRow k) layers

@@ -66,8 +66,8 @@ fn stand_as_found(
 }
 
 /// Whether an operation shows one name before the other; both are given by their bytes. It costs the
-/// response, or where it has more than six names and a step was right in it before, a search by halving for
-/// each name, and mostly one look.
+/// response, or where it has more than six names and some steps were right in it before, a search by halving
+/// for each name, and mostly one look.
 pub fn shows(
     found: &mut FoundPlaces,
     recording: &Recording,

@@ -41,7 +41,7 @@ fn is_right_step(
 /// none.
 ///
 /// Each step costs the response that it cites, or less where there are many steps, that response has more
-/// than six names, and those of the step were found there before.
+/// than six names, and was gone through about as often as its number of names can be halved.
 pub fn first_wrong_step(alloc: Global, recording: &Recording, k: u32, lines: &[u8]) -> Option<u32>
     requires { IsLegal recording.now }
     ensures { TellsFirstWrong recording.now k lines.now result }

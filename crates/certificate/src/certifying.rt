@@ -35,10 +35,11 @@ use witnesses::{Order, Steps};
 /// bits for n elements is made once, by responses that cover all, for which the contents are checked once
 /// more. Each of these costs n / 64 steps, and each of its places a step, and one for each new element behind
 /// it, up to 64; where there are more, or its own is new, n / 64 steps. New is an element that the response
-/// before has not, or in another order. Each row then costs n / 64 steps for each layer and each name in it
-/// but those of the last layer, and memory for its names. So the memory may be quadratic in the elements: of
-/// 4,096, rows of up to 2,048 names of 33 bytes each on average, and it answers `Memory` where that is not to
-/// be had. For the text alone `write_certificate` keeps one row at a time.
+/// before has not, or in another order. Each row then costs n / 64 steps for itself, for each layer behind one
+/// that has names and for each name but those of the last layer, and memory for its names. So the memory may
+/// be quadratic in the elements: of 4,096, rows of up to 2,048 names of 33 bytes each on average, and it
+/// answers `Memory` where that is not to be had. For the text alone `write_certificate` keeps one row at a
+/// time.
 pub fn certify(
     alloc: Global,
     recording: &Recording,

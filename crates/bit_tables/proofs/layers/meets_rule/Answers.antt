@@ -1,8 +1,9 @@
 use Rattle.std.proofs.Common.{◌≡◌, ℕ, ◌∙◌, ◌+◌, inl, inr, List, length, map, refl, sym, arith}
 use Rattle.std.proofs.Common.{true≢false}
+use Rattle.std.proofs.lemmas.Grind.{common_steps}
 use Rattle.std.proofs.lemmas.List.{length-map}
-use Rattle.bit_tables.proofs.LayerLemmas.{all-from, all-within, list-here, tested_step, tested_subset}
-use Rattle.bit_tables.proofs.LayerLemmas.{tested_all, gradual_more, shown_more, none_below, negated}
+use Rattle.bit_tables.proofs.LayerLemmas.{all-from, all-within, list-here, settled_step, tested_step}
+use Rattle.bit_tables.proofs.LayerLemmas.{tested_subset, tested_all, gradual_more, shown_more, none_below, negated}
 use Rattle.bit_tables.proofs.layers.meets_rule.Goals as goal
 
 pub layers-preserved : goal.layers-preserved
@@ -18,13 +19,19 @@ layers-preserved c =
       shown_len = c.add_successors.ensures.len ∙ inv.shown_len;
       last = inr (omega arith);
       least = inv.least;
+      settled =
+          λ is_empty y. settled_step c.args.table.now c.deref-in-layers.result.now c.layers.shown
+          c.add_successors.new.into c.add_layer.new.into c.args.first _
+          (grind (arith, common_steps, is_empty, c.is_empty-is_settled.ensures, c.deref-in-layers.ensures.value)) inv.least.0 y
+          (λ low. (c.add_layer.ensures.has y).1 (inl ((inv.tested.standing_is y).1 (inl low))))
+          (c.all_stand.ensures.0 c.if-not-all_stand.false y) (c.add_successors.ensures.has y);
       tested =
           tested_step _ _ _ inv.least.0 _ _ _ _ _ inv.tested grown _
-          (c.is_subset.ensures.0 c.if-not-is_subset.false) more;
+          (c.all_stand.ensures.0 c.if-not-all_stand.false) more;
     }
 
-pub returns-then-not-is_subset : goal.returns-then-not-is_subset
-returns-then-not-is_subset c lists depth table depths =
+pub returns-then-not-all_stand : goal.returns-then-not-all_stand
+returns-then-not-all_stand c lists depth table depths =
     let inv = c.layers.invariant in
     let count = length-map c.args.layers.now (λ layer. layer.items) in
     let here =
@@ -36,11 +43,11 @@ returns-then-not-is_subset c lists depth table depths =
       λ meets.
           absurd
           (true≢false
-          (sym (c.is_subset.ensures.1
+          (sym (c.all_stand.ensures.1
           (tested_subset _ _ _ inv.least.0 _ _ _ _ _ inv.tested grown c.args.n c.args.source lists depth
           (omega (arith, count)) (all-from _ _ _ c.requires.from) (all-within _ _ _ c.requires.within)
           table depths meets))
-          ∙ c.if-not-is_subset.true)),
+          ∙ c.if-not-all_stand.true)),
     )
 
 pub returns-then-i-layers : goal.returns-then-i-layers
@@ -57,7 +64,7 @@ returns-then-i-layers c lists depth table depths =
     let none = negated c.is_shown.result _ shown in
     let gradual =
     gradual_more _ _ _ inv.least.0 _ _ _ _ _ inv.tested grown
-    (c.is_subset.ensures.0 c.if-not-is_subset.false) in
+    (c.all_stand.ensures.0 c.if-not-all_stand.false) in
     let more = shown_more _ _ _ inv.least.0 _ _ _ _ _ inv.tested grown c.args.source inv.least.1 in
     let whole =
     tested_all c.args.n c.args.first c.args.source _ c.args.table.now lists _ depth

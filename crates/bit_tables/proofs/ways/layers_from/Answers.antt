@@ -1,10 +1,12 @@
-use Rattle.std.proofs.Common.{◌≡◌, ℕ, ◌+◌, ◌/◌, ◌<◌, ◌≤◌, ◌∙◌, ◌⊎◌, List, [], ◌∷◌, ◌++◌, Vec, Global, map}
+use Rattle.std.proofs.Common.{◌≡◌, ℕ, ◌+◌, ◌/◌, ◌<◌, ◌≤◌, ◌∙◌, ◌⊎◌, inl, inr, List, [], ◌∷◌, ◌++◌, Vec, Global, map}
 use Rattle.std.proofs.Common.{length, ap, sym, subst, arith}
 use Rattle.std.specs.Prelude.{◌↔◌, Contains}
+use Rattle.std.proofs.lemmas.Grind.{common_steps}
 use Rattle.std.proofs.lemmas.List.{map-append}
 use Rattle.bit_tables.specs.Sets.{Has, room}
 use Rattle.bit_tables.specs.Lists.{row_of}
-use Rattle.bit_tables.proofs.Those.{those_all}
+use Rattle.bit_tables.proofs.LayerLemmas.{settled_step}
+use Rattle.bit_tables.proofs.Those.{those_all, cases_has}
 use Rattle.bit_tables.proofs.WayLemmas.{IsWalked, walked_more, walked-layer}
 use Rattle.bit_tables.proofs.ways.layers_from.Goals as goal
 
@@ -40,6 +42,14 @@ loop-d-preserved c =
     record {
       reached_len = c.add_layer.ensures.len ∙ inv.reached_len;
       shown_len = c.add_unless_last.ensures.len ∙ inv.shown_len;
+      settled = λ is_empty more y low.
+          settled_step c.args.table.now layer c.loop-d.shown c.add_unless_last.new.into c.add_layer.new.into
+          c.args.first c.args.first (grind (arith, common_steps, is_empty, c.is_empty-is_settled.ensures)) (omega arith) y
+          (λ less. (more_reached y).1 (inl ((inv.walked.reached_is y).1 (inl less))))
+          (λ has. (more_reached y).1 (elim (cases_has c.loop-d.reached y) [
+            | inl known ↦ inl known
+            | inr new ↦ inr ((c.in_ok-layer.ensures.has y).1 (low, (has, new)))
+          ])) (more_shown more y);
       walked =
           subst (λ ls. IsWalked c.args.count c.args.n c.args.first c.args.source
           (c.loop-d.d + 1) c.args.table.now ls c.add_layer.new.into c.add_unless_last.new.into) (sym pushed)

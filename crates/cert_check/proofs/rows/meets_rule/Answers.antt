@@ -8,7 +8,6 @@ use Rattle.specification.specs.Elements.{elements}
 use Rattle.specification.specs.Responses.{Responses, AreProper, responses_of}
 use Rattle.specification.specs.Versions.{Version}
 use Rattle.specification.proofs.SoundResponses.{sound_responses_are_proper}
-use Rattle.bit_tables.specs.Lists.{IsTableOf}
 use Rattle.bit_tables.specs.Rule.{HaveDepths, MeetsRule}
 use Rattle.certificate_text.specs.CertificateOf.{version_in}
 use Rattle.format_words.specs.Words.{words_behind}
@@ -73,18 +72,16 @@ returns-then-not-are_from-clause-meets c = λ row says h a of at. (
       (subst (λ (l : List ℕ). All (λ n. first ≤ n) l) (sym c.deref.ensures.value) all))),
 )
 
-pub are_deep-requires-clause-noted : goal.are_deep-requires-clause-noted
-are_deep-requires-clause-noted c =
-    let has : HaveDepths c.note_row.new.row.depths.items (c.args.k - 1) c.note_row.new.row.noted.items =
-    c.in_ok-is_noted.ensures.numbers c.if-not-is_noted.false in
-    subst (λ (l : List ℕ). HaveDepths l (c.args.k - 1) c.deref-3.result.now) (sym c.deref-2.ensures.value)
-    (subst (λ (l : List ℕ). HaveDepths c.note_row.new.row.depths.items (c.args.k - 1) l)
-    (sym c.deref-3.ensures.value) has)
+pub are_deep_by_table-requires-clause-size : goal.are_deep_by_table-requires-clause-size
+are_deep_by_table-requires-clause-size c =
+    (row_noted (goal.at.are_deep_by_table-requires-clause-size c).Else-not-is_noted).size
 
-pub are_deep-requires-clause-most : goal.are_deep-requires-clause-most
-are_deep-requires-clause-most c =
-    subst (λ (ds : List ℕ). All (λ d. d ≤ c.args.k - 1) ds) (sym c.deref-2.ensures.value)
-    (depths-most _ _ _ _ (row_noted (goal.at.are_deep-requires-clause-most c).Else-not-is_noted))
+pub are_deep_by_table-requires-clause-noted : goal.are_deep_by_table-requires-clause-noted
+are_deep_by_table-requires-clause-noted c = c.in_ok-is_noted.ensures.numbers c.if-not-is_noted.false
+
+pub are_deep_by_table-requires-clause-most : goal.are_deep_by_table-requires-clause-most
+are_deep_by_table-requires-clause-most c =
+    depths-most _ _ _ _ (row_noted (goal.at.are_deep_by_table-requires-clause-most c).Else-not-is_noted)
 
 pub clear-requires-clause-noted : goal.clear-requires-clause-noted
 clear-requires-clause-noted c = c.in_ok-is_noted.ensures.numbers c.if-not-is_noted.false
@@ -105,28 +102,23 @@ returns-clause-meets c = λ row says h a of at.
     let proper : AreProper v = sound_responses_are_proper h of.legal of.sound in
     let first : ℕ = c.first_of-first.result in
     let t = c.args.numbered.now in
-    let depths : List ℕ = c.deref-2.result.now in
+    let depths : List ℕ = c.note_row.new.row.depths.items in
     let noted : List ℕ = c.note_row.new.row.noted.items in
     let names : List NameBytes = t.names.items in
-    let some : Holds names (c.args.k - 1) (pairs_from 0 row) c.note_row.new.row.depths.items =
-    subst (λ (ps : List Noted). Holds names (c.args.k - 1) ps c.note_row.new.row.depths.items) says.pairs
+    let some : Holds names (c.args.k - 1) (pairs_from 0 row) depths =
+    subst (λ (ps : List Noted). Holds names (c.args.k - 1) ps depths) says.pairs
     (row_noted (goal.at.returns-clause-meets c).Else-not-is_noted) in
-    let lent : Holds names (c.args.k - 1) (pairs_from 0 row) depths =
-    subst (Holds names (c.args.k - 1) (pairs_from 0 row)) (sym c.deref-2.ensures.value) some in
     let holds : Holds (elements h) (c.args.k - 1) (pairs_from 0 row) depths =
-    subst (λ (ns : List NameBytes). Holds ns (c.args.k - 1) (pairs_from 0 row) depths) of.names lent in
+    subst (λ (ns : List NameBytes). Holds ns (c.args.k - 1) (pairs_from 0 row) depths) of.names some in
     let within : AreWithin (length depths) t =
-    subst (λ (n : ℕ). AreWithin n t) (sym lent.size) c.requires.within in
-    let table : IsTableOf (length depths) (lists_of t) c.args.table.now =
-    subst (λ (n : ℕ). IsTableOf n (lists_of t) c.args.table.now) (sym lent.size) c.requires.table in
+    subst (λ (n : ℕ). AreWithin n t) (sym some.size) c.requires.within in
     let has : HaveDepths depths (c.args.k - 1) noted =
-    subst (λ (l : List ℕ). HaveDepths l (c.args.k - 1) noted) (sym c.deref-2.ensures.value)
-    (c.in_ok-is_noted.ensures.numbers c.if-not-is_noted.false) in
+    c.in_ok-is_noted.ensures.numbers c.if-not-is_noted.false in
     let all : All (λ n. first ≤ n) noted =
     subst (λ (l : List ℕ). All (λ n. first ≤ n) l) c.deref.ensures.value
     (c.if-not-are_from.ensures.0 refl) in
     let deep : IsTrue c.in_ok-deep.deep ↔ MeetsRule (lists_of t) first c.args.source (c.args.k - 1)
-    (λ x. slice_index_or depths x (c.args.k - 1)) = c.in_ok-deep.ensures (lists_of t) table in (
+    (λ x. slice_index_or depths x (c.args.k - 1)) = c.in_ok-deep.ensures.deep in (
       λ yes. to-rule v proper c.args.k c.args.source a row at version
           (subst (λ (n : ℕ). MeetsRuleFrom v n c.args.k a row) c.first_of-first.ensures
           (rule_from_lists h t of c.args.k first row depths says.row_is.layers holds c.args.source a at
