@@ -245,6 +245,13 @@ WORDS = [
      "[q] no operation of this trace inserts it"),
     ("a name twice", 1, "0 ins a 0 : a|0 read : a a", "answered: [a] [a]|it should hold, in any order: a|Named more than once|"
      "[a] inserted by 0.1 (line 3), an earlier operation of replica 0"),
+    ("a change that is applied twice", 2, "0 ins a 0 : a|0 ins b 1 : a b|1 recv 0 2|1 read : a b a", "Named more than once|"
+     "[a] inserted by 0.1 (line 3), arrived at replica 1 in line 5 (1 recv 0 2)||Where to look|"
+     "It looks as if 0.1 (line 3) was applied twice at replica 1: look at what the editor does with a change that arrives a second time, and at "
+     "whether one that waits is applied when it arrives as well."),
+    ("its own changes that come back", 1, "0 ins a 0 : a|0 ins b 1 : a b|0 read : a b a b", "Named more than once||Where to look|"
+     "It looks as if 0.1 (line 3) and 0.2 (line 4) were applied twice at replica 0: look at what the editor does with a change that arrives a second "
+     "time (its own may come back, from a server say), and at whether one that waits is applied when it arrives as well.|"),
     ("its own delete", 1, "0 ins a 0 : a|0 del a : a", "[a] inserted by 0.1 (line 3), an earlier operation of replica 0|"
      "[a] deleted by 0.2 (line 4), this operation itself"),
     ("a deleted element in a view", 1, "0 ins a 0 : a|0 ins b 1 : a b|0 del a : b|0 view : a",

@@ -18,6 +18,9 @@ MOST_MET = 6  # changes for which a position was perhaps not adjusted
 ARRIVAL = ("Look in this order. Recorder: `received` must be called right after the change is applied. Transport: no change may arrive before those "
            "that its author had seen. Editor: does it lose a change, apply it twice, or apply it to another element? "
            f"{GUIDE} says where the calls go.")
+APPLIED_TWICE = ("It looks as if {changes} {were} applied twice at replica {replica}: look at what the editor does with a change that arrives a second "
+                 "time{back}, and at whether one that waits is applied when it arrives as well.")
+OWN_BACK = " (its own may come back, from a server say)"
 UNDELIVERED = ("Only `delivered` ({lines}) says that {changes} arrived at replica {replica}; no response before shows {them}. {They} lost, or "
                "{are} held back for ever{waiting}. Look at what keeps changes waiting.")
 WAITING = "; {others}, which came later, perhaps wait{s} for {it}"
@@ -110,7 +113,7 @@ def otherwise(condition: str, look: str) -> str:
 def of_contents(evidence: Evidence) -> list:
     if evidence.undelivered:
         return [undelivered(evidence)]
-    found = [*wrong_delete(evidence, evidence.operations[0]), *second_delete(evidence), *overtaken(evidence), *lost_neighbour(evidence)]
+    found = [*applied_twice(evidence), *wrong_delete(evidence, evidence.operations[0]), *second_delete(evidence), *overtaken(evidence), *lost_neighbour(evidence)]
     more = unlike_receipts(evidence) if not found or all(cause.name == "lost neighbour" for cause in found) else []
     is_loss_first = is_loss_likelier(evidence, found or more)
     found += more
@@ -118,6 +121,16 @@ def of_contents(evidence: Evidence) -> list:
     found += brought(evidence, not found)
     these = "If none of these is the cause" if found[1:] else "If that is not the cause"
     return [*found, Cause("arrival", otherwise(these, ARRIVAL) if found else ARRIVAL)]
+
+
+def applied_twice(evidence: Evidence) -> list:
+    """Of elements that the response names more than once."""
+    replica = evidence.operations[0].replica
+    inserts = [insert for name in evidence.repeated for insert in evidence.recording.inserts.get(name, [])]
+    if not inserts:
+        return []
+    back = OWN_BACK if all(insert.replica == replica for insert in inserts) else ""
+    return [Cause("applied twice", APPLIED_TWICE.format(replica=replica, back=back, **changes_told(inserts)))]
 
 
 def undelivered(evidence: Evidence) -> Cause:
