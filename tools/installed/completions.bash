@@ -4,12 +4,12 @@ _domepeeler() {
     local word=${COMP_WORDS[COMP_CWORD]} before=${COMP_WORDS[COMP_CWORD-1]} options
     case $before in
         --workers) COMPREPLY=($(compgen -W "1 2 4 8 16 32 64" -- "$word")); return ;;
-        --jobs | --sshlogin | --delivered) return ;;
+        --jobs | --sshlogin | --delivered | --refused) return ;;
         --language) COMPREPLY=($(compgen -W "python javascript rust c emacs-lisp" -- "$word")); return ;;
         --program | --html | --small | --svg | --junit) compopt -o filenames; mapfile -t COMPREPLY < <(compgen -f -- "$word"); return ;;
     esac
     case ${COMP_WORDS[0]##*/} in
-        domepeeler-explain) options="--html --small --svg --language --delivered --weak --program --version --help" ;;
+        domepeeler-explain) options="--html --small --svg --language --delivered --refused --weak --program --version --help" ;;
         domepeeler-judge-many) options="--json --failing --unequal --weak --junit --jobs --sshlogin --program --version --help" ;;
         *)
             if ((COMP_CWORD == 1)); then

@@ -15,6 +15,7 @@ complete -c domepeeler-explain -l html -r -d 'write a page with the session draw
 complete -c domepeeler-explain -l small -r -d 'write a small trace with the same fault'
 complete -c domepeeler-explain -l svg -r -d 'write the picture of the cycle'
 complete -c domepeeler-explain -l delivered -x -d 'lines that delivered wrote'
+complete -c domepeeler-explain -l refused -x -d 'what a recorder says of calls that it refused'
 complete -c domepeeler-explain -l language -x -a 'python javascript rust c emacs-lisp' -d 'of the recorder'
 complete -c domepeeler-explain -l weak -d 'let a trace pass where weak holds'
 complete -c domepeeler-explain -l program -r -d 'the program that judges'

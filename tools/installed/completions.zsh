@@ -8,6 +8,7 @@ _domepeeler() {
                 '--small[write a small trace with the same fault]:file:_files' \
                 '--svg[write the picture of the cycle]:file:_files' \
                 '*--delivered[lines that delivered wrote]:range:' \
+                '*--refused[what a recorder says of calls that it refused]:words:' \
                 '--language[of the recorder]:language:(python javascript rust c emacs-lisp)' \
                 '--weak[let a trace pass where weak holds]' \
                 '--program[the program that judges]:program:_files' \
