@@ -483,7 +483,7 @@ and takes time linear in the text."
               (domepeeler--unheard recording)
               (domepeeler--unshown recording warned)
               (domepeeler--without-operation recording warned)
-              (domepeeler--some (domepeeler--warned-of-nothing warned) "delete" "of what no line inserts")
+              (domepeeler--some (domepeeler--warned-of-nothing warned) "delete" "of elements that no line inserts")
               (domepeeler--some (domepeeler--warned-past-end warned) "insert" "past the end of a list")))))
 
 (domepeeler--defun domepeeler-judge (recording &optional program weak)
@@ -903,15 +903,15 @@ A letter stands first, as `2-0' would look like an operation's name."
               (puthash third t inserted)
               (let ((before (1- (length (split-string names " " t)))))
                 (when (> (string-to-number fourth) before)
-                  (push (format "%s inserted %s at position %s, which counts as the end of a list of length %d: %s" named third fourth before
-                                "is that the position that was asked for?")
+                  (push (format "%s inserted %s at position %s, past the end of a list of length %d, %s %s asked for?" named third fourth before
+                                "so it counts as the end: was position" fourth)
                         past-end))))))))
     (make-domepeeler--warned
      :entries entries
      :of-nothing (cl-loop for (name . named) in (nreverse deletes)
                           unless (gethash name inserted)
-                          collect (format "%s deleted %s, which no line inserts, so no response shows whether it was deleted: %s"
-                                          named name "is that its name, and was its insert recorded?"))
+                          collect (format "%s deleted %s, which no line inserts, so no response shows whether it was deleted: is %s %s"
+                                          named name name "the right name, and was its insert recorded?"))
      :past-end (nreverse past-end))))
 
 (defun domepeeler--acting (recording)
@@ -946,17 +946,17 @@ And which changes never arrived at which replica."
                                (format "%s never arrived at replica%s %s" (car pair) (if (cddr pair) "s" "")
                                        (domepeeler--joined (reverse (cdr pair)))))
                              (reverse alike) "; "))
-           (lost (if (and (= count 1) (null (cdr alike))) "it was lost or is held back" "they were lost or are held back"))
+           (lost (if (and (= count 1) (null (cdr alike))) "Unless it was still on its way, it was lost or is held back" "Unless they were still on their way, they were lost or are held back"))
            (groups (mapcar (lambda (pair) (reverse (cdr pair))) (reverse lists)))
            (same (cl-loop for group in groups
-                          when (cdr group) collect (format "%s show the same one" (domepeeler--joined group))))
-           (told (format "in the end replicas %s show different lists%s" (domepeeler--joined (sort (apply #'append groups) #'<))
-                         (if same (format " (%s)" (domepeeler--joined same)) ""))))
+                          when (cdr group) collect (format "%s do" (domepeeler--joined group))))
+           (told (format "in the end replicas %s %s" (domepeeler--joined (sort (apply #'append groups) #'<))
+                         (if same (format "do not all show the same list (%s)" (string-join same "; ")) "show different lists"))))
       (cond
        ((and (< (length groups) 2) (= count 0)) nil)
-       ((< (length groups) 2) (list (format "in this recording %s. If nothing was still on its way, %s" never lost)))
+       ((< (length groups) 2) (list (format "in this recording %s. %s" never lost)))
        ((= count 0) (list told))
-       (t (list (format "%s: %s in this recording. If nothing was still on its way, %s" told never lost)))))))
+       (t (list (format "%s: %s in this recording. %s" told never lost)))))))
 
 (defun domepeeler--lacked (recording warned replica)
   "The changes that never arrived at REPLICA, with their lines.
@@ -985,7 +985,7 @@ None of an author of which it never hears."
            collect (format "replica %d never hears of replica%s %s: %s, %s. %s" replica (if (cdr others) "s" "")
                            (domepeeler--joined others) "no receipt brings it an insert or a delete from there"
                            "so nothing shows how it applies these"
-                           "At the end of a session let everyone receive everything, and read")))
+                           "At the end of a session let everyone receive everything, and then read the list")))
 
 (defun domepeeler--unshown (recording warned)
   "Of replicas whose last receipts bring changes, and that show no list after them.
@@ -994,7 +994,7 @@ A view is none."
            for news = (domepeeler--news recording warned replica)
            for viewed = (domepeeler--entries-viewed (aref (domepeeler--warned-entries warned) replica))
            when news
-           collect (format "replica %d received %s last, and nothing%s shows how it applied %s: let each replica read at the end"
+           collect (format "replica %d received %s last, and shows no list%s after %s: let each replica read at the end"
                            replica (domepeeler--listed news) (if viewed " but a view" "") (if (cdr news) "them" "that"))))
 
 (defun domepeeler--news (recording warned replica)

@@ -732,7 +732,9 @@ static inline void domepeeler_say_refused(const struct domepeeler *d, struct dom
 
 static inline unsigned domepeeler_save_now(struct domepeeler *d, const char *path) {
     struct stat about;
-    if (!stat(path, &about) && !S_ISREG(about.st_mode)) return domepeeler_save_into(d, path);
+    int is_there = !stat(path, &about);
+    if (!is_there && !*path) return domepeeler_cannot_write(d, path); /* it is no name of this folder */
+    if (is_there && !S_ISREG(about.st_mode)) return domepeeler_save_into(d, path);
     struct domepeeler_words beside = {NULL, 0, 0, 0}, lines = {NULL, 0, 0, 0};
     domepeeler_say(&beside, "%s.lines", path);
     domepeeler_say(&lines, "%zu\nlanguage c\n", domepeeler_lines_now(d));
@@ -1202,9 +1204,9 @@ static inline void domepeeler_read_operation(struct domepeeler_warned *w, int re
     long long before = -1, position = atoll(event.name.at + event.name.length);
     for (const char *letter = colon; letter < end; letter++) before += *letter == ' ';
     if (position <= before || w->ends++ >= DOMEPEELER_TOLD) return;
-    domepeeler_say(&w->past_end, "line %zu, %d.%u: replica %d inserted %.*s at position %lld, which counts as the end of a list of length %lld: "
-                                 "is that the position that was asked for?\n", line, replica, event.n, replica,
-                   (int)event.name.length, event.name.at, position, before);
+    domepeeler_say(&w->past_end, "line %zu, %d.%u: replica %d inserted %.*s at position %lld, past the end of a list of length %lld, so it "
+                                 "counts as the end: was position %lld asked for?\n", line, replica, event.n, replica,
+                   (int)event.name.length, event.name.at, position, before, position);
 }
 
 static inline void domepeeler_read_entries(struct domepeeler_warned *w) {
@@ -1330,24 +1332,24 @@ static inline size_t domepeeler_say_alike(const struct domepeeler_warned *w, str
 static inline void domepeeler_say_different(const struct domepeeler_warned *w) {
     struct domepeeler_words never = {NULL, 0, 0, 0}, none = {NULL, 0, 0, 0};
     size_t count = domepeeler_say_lacked(w, &never), groups = 0, told = 0;
-    const char *lost = count == 1 ? "it was lost or is held back" : "they were lost or are held back";
+    const char *lost = count == 1 ? "Unless it was still on its way, it was lost or is held back" : "Unless they were still on their way, they were lost or are held back";
     int like[DOMEPEELER_REPLICAS];
     w->said->is_short |= never.is_short;
     if (domepeeler_alike(w, like) > 1) {
         domepeeler_say(w->said, "in the end replicas ");
         domepeeler_say_alike(w, w->said, like, -1);
-        domepeeler_say(w->said, " show different lists");
         for (int i = 0; i < w->d->replicas; i++) groups += like[i] == i && domepeeler_say_alike(w, &none, like, i) > 1;
+        domepeeler_say(w->said, groups ? " do not all show the same list" : " show different lists");
         for (int i = 0; i < w->d->replicas; i++) {
             if (like[i] != i || domepeeler_say_alike(w, &none, like, i) < 2) continue;
-            domepeeler_say(w->said, "%s", told ? domepeeler_joint(told, groups) : " (");
+            domepeeler_say(w->said, "%s", told ? "; " : " (");
             domepeeler_say_alike(w, w->said, like, i);
-            domepeeler_say(w->said, " show the same one%s", ++told == groups ? ")" : "");
+            domepeeler_say(w->said, " do%s", ++told == groups ? ")" : "");
         }
-        if (count) domepeeler_say(w->said, ": %s in this recording. If nothing was still on its way, %s", never.text ? never.text : "", lost);
+        if (count) domepeeler_say(w->said, ": %s in this recording. %s", never.text ? never.text : "", lost);
         domepeeler_say(w->said, "\n");
     } else if (count) {
-        domepeeler_say(w->said, "in this recording %s. If nothing was still on its way, %s\n", never.text ? never.text : "", lost);
+        domepeeler_say(w->said, "in this recording %s. %s\n", never.text ? never.text : "", lost);
     }
     free(never.text);
     free(none.text);
@@ -1366,7 +1368,7 @@ static inline void domepeeler_say_unheard(const struct domepeeler_warned *w) {
         domepeeler_say(w->said, "replica %d never hears of replica%s ", i, domepeeler_plural(count));
         for (size_t k = 0; k < count; k++) domepeeler_say(w->said, "%s%d", domepeeler_joint(k, count), others[k]);
         domepeeler_say(w->said, ": no receipt brings it an insert or a delete from there, so nothing shows how it applies these. "
-                                "At the end of a session let everyone receive everything, and read\n");
+                                "At the end of a session let everyone receive everything, and then read the list\n");
     }
 }
 
@@ -1393,7 +1395,7 @@ static inline void domepeeler_say_unshown(struct domepeeler_warned *w) {
         if (!news) continue;
         domepeeler_say(w->said, "replica %d received ", i);
         domepeeler_say_changes(w->d, w->said, entries->arrived, news);
-        domepeeler_say(w->said, " last, and nothing%s shows how it applied %s: let each replica read at the end\n",
+        domepeeler_say(w->said, " last, and shows no list%s after %s: let each replica read at the end\n",
                        entries->is_viewed ? " but a view" : "", news == 1 ? "that" : "them");
     }
 }
@@ -1420,10 +1422,10 @@ static inline void domepeeler_say_of_nothing(const struct domepeeler_warned *w) 
         if (bsearch(&one->name, w->inserted, w->inserts, sizeof *w->inserted, domepeeler_compare)) continue;
         if (count++ < DOMEPEELER_TOLD)
             domepeeler_say(w->said, "line %zu, %d.%u: replica %d deleted %.*s, which no line inserts, so no response shows whether it was "
-                                    "deleted: is that its name, and was its insert recorded?\n", one->line, one->author, one->n,
-                           one->author, (int)one->name.length, one->name.at);
+                                    "deleted: is %.*s the right name, and was its insert recorded?\n", one->line, one->author, one->n,
+                           one->author, (int)one->name.length, one->name.at, (int)one->name.length, one->name.at);
     }
-    domepeeler_say_more(w->said, count, "delete", "of what no line inserts");
+    domepeeler_say_more(w->said, count, "delete", "of elements that no line inserts");
 }
 
 /* Room for what is read of so many entries, and of as many names in the lists that replicas showed last as they may have. */

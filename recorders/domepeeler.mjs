@@ -58,7 +58,7 @@ const LAST = "\nThe list specifications\n" // the title of the last section ther
 const WARNINGS = /^What this verdict may hide\n(?:  .*\n)*/m // a section there
 const NAMED = /\(line (\d+)\)/g // a line in a warning, whose place is put behind it
 // The statement for a debugger.
-const STATEMENT = /^(  stop before line (\d+) of the trace, .*?) In [A-Z][A-Za-z ]*, put this where your code [a-z, ]+: .*/gm
+const STATEMENT = /^(  stop before line (\d+) of the trace, .*?) In [A-Z][A-Za-z ]*, put this where your code [^:]+: .*/gm
 // A line of a stack, with the path or the URL of a file, and the line in it.
 const FRAME = /^ +at (?:async |.*\()?((?:[a-z]{2,}:\/\/|\/|[A-Za-z]:[\\/]).*:\d+):\d+\)?$/
 const OWN = String(import.meta.url)
@@ -892,18 +892,18 @@ function hidden(lines) {
     if (kind === "ins") {
       inserted.add(words[2])
       if (Number(words[3]) > names.length - 1) {
-        pastEnd.push(`line ${line}, ${replica}.${n}: replica ${replica} inserted ${words[2]} at position ${words[3]}, which counts as ` +
-          `the end of a list of length ${names.length - 1}: is that the position that was asked for?`)
+        pastEnd.push(`line ${line}, ${replica}.${n}: replica ${replica} inserted ${words[2]} at position ${words[3]}, past the end of ` +
+          `a list of length ${names.length - 1}, so it counts as the end: was position ${words[3]} asked for?`)
       }
     } else if (kind === "del") {
       deletes.push([words[2], `line ${line}, ${replica}.${n}: replica ${replica} deleted ${words[2]}, which no line inserts, so no ` +
-        "response shows whether it was deleted: is that its name, and was its insert recorded?"])
+        `response shows whether it was deleted: is ${words[2]} the right name, and was its insert recorded?`])
     }
   })
   const ofNothing = deletes.filter(([name]) => !inserted.has(name)).map(([, said]) => said)
   const silent = ends.flatMap(({ pasts, receipts }, replica) => (pasts.length ? [] :
     [`replica ${replica} has ${receipts ? "receipts, but no operation" : "no entry"}: nothing that it showed is judged`]))
-  return [...different(ends), ...unheard(ends), ...unshown(ends), ...silent, ...some(ofNothing, "delete", "of what no line inserts"),
+  return [...different(ends), ...unheard(ends), ...unshown(ends), ...silent, ...some(ofNothing, "delete", "of elements that no line inserts"),
     ...some(pastEnd, "insert", "past the end of a list")]
 }
 
@@ -933,12 +933,12 @@ function different(ends) {
   })
   const never = [...alike].map(([what, where]) => `${what} never arrived at replica${where.length === 1 ? "" : "s"} ${joined(where)}`)
   const isOne = alike.size === 1 && lacking.every(({ count }) => count < 2)
-  const lost = isOne ? "it was lost or is held back" : "they were lost or are held back"
-  if (lists.size < 2) return never.length ? [`in this recording ${never.join("; ")}. If nothing was still on its way, ${lost}`] : []
+  const lost = isOne ? "Unless it was still on its way, it was lost or is held back" : "Unless they were still on their way, they were lost or are held back"
+  if (lists.size < 2) return never.length ? [`in this recording ${never.join("; ")}. ${lost}`] : []
   const replicas = [...lists.values()].flat().sort((a, b) => a - b)
-  const same = [...lists.values()].filter((one) => one.length > 1).map((one) => `${joined(one)} show the same one`)
-  const said = `in the end replicas ${joined(replicas)} show different lists${same.length ? ` (${joined(same)})` : ""}`
-  return [never.length ? `${said}: ${never.join("; ")} in this recording. If nothing was still on its way, ${lost}` : said]
+  const same = [...lists.values()].filter((one) => one.length > 1).map((one) => `${joined(one)} do`)
+  const said = `in the end replicas ${joined(replicas)} ${same.length ? `do not all show the same list (${same.join("; ")})` : "show different lists"}`
+  return [never.length ? `${said}: ${never.join("; ")} in this recording. ${lost}` : said]
 }
 
 // The changes that never arrived at the replica, in the order of the trace, as many as are told, and how many there are; none of an author
@@ -963,7 +963,7 @@ function unheard(ends) {
     if (!pasts.length || !others.length) return []
     return [`replica ${replica} never hears of replica${others.length === 1 ? "" : "s"} ${joined(others)}: no receipt brings it an ` +
       "insert or a delete from there, so nothing shows how it applies these. At the end of a session let everyone receive everything, " +
-      "and read"]
+      "and then read the list"]
   })
 }
 
@@ -977,7 +977,7 @@ function unshown(ends) {
       return ends.some(({ changes }, other) => upTo(changes, has[other]) > upTo(changes, before[other]))
     }).map(({ author, n, line }) => `${author}.${n} (line ${line})`)
     if (!pasts.length || !news.length) return []
-    return [`replica ${replica} received ${listing(news, news.length)} last, and nothing${isViewed ? " but a view" : ""} shows how it applied ` +
+    return [`replica ${replica} received ${listing(news, news.length)} last, and shows no list${isViewed ? " but a view" : ""} after ` +
       `${news.length === 1 ? "that" : "them"}: let each replica read at the end`]
   })
 }

@@ -67,7 +67,7 @@ LINE = re.compile(r"\bline (\d+)(?=[,):]| of the trace,| \(\d+ recv )")  # a lin
 LAST = "\nThe list specifications\n"  # the title of the last section there
 WARNINGS = re.compile(r"^What this verdict may hide\n(?:  .*\n)*", re.MULTILINE)  # a section there
 NAMED = re.compile(r"\(line (\d+)\)")  # a line in a warning, whose place is put behind it
-STATEMENT = re.compile(r"^(  stop before line (\d+) of the trace, .*?) In [A-Z][A-Za-z ]*, put this where your code [a-z, ]+: .*",
+STATEMENT = re.compile(r"^(  stop before line (\d+) of the trace, .*?) In [A-Z][A-Za-z ]*, put this where your code [^:]+: .*",
                        re.MULTILINE)  # for a debugger
 MOST_WARNED = 5  # deletes, or inserts, that are warned of one by one
 MOST_CHANGES = 3  # that are warned of one by one of those that a replica lacks, or has made nothing of
@@ -837,15 +837,15 @@ def _hidden(lines: List[str]) -> List[str]:
             inserted.add(words[2])
             before = words[4].count(" ") - 1  # names in the list before it
             if int(words[3]) > before:
-                past_end.append(f"line {line}, {replica}.{n}: replica {replica} inserted {words[2]} at position {words[3]}, which counts as "
-                                f"the end of a list of length {before}: is that the position that was asked for?")
+                past_end.append(f"line {line}, {replica}.{n}: replica {replica} inserted {words[2]} at position {words[3]}, past the end of "
+                                f"a list of length {before}, so it counts as the end: was position {words[3]} asked for?")
         elif kind == "del":
             deletes.append((words[2], f"line {line}, {replica}.{n}: replica {replica} deleted {words[2]}, which no line inserts, so no "
-                                      "response shows whether it was deleted: is that its name, and was its insert recorded?"))
+                                      f"response shows whether it was deleted: is {words[2]} the right name, and was its insert recorded?"))
     of_nothing = [told for name, told in deletes if name not in inserted]
     silent = [f"replica {replica} has {'receipts, but no operation' if one.receipts else 'no entry'}: nothing that it showed is judged"
               for replica, one in enumerate(ends) if not one.pasts]
-    return [*_different(ends), *_unheard(ends), *_unshown(ends), *silent, *_some(of_nothing, "delete", "of what no line inserts"),
+    return [*_different(ends), *_unheard(ends), *_unshown(ends), *silent, *_some(of_nothing, "delete", "of elements that no line inserts"),
             *_some(past_end, "insert", "past the end of a list")]
 
 
@@ -872,13 +872,13 @@ def _different(ends: List[_End]) -> List[str]:
             alike.setdefault(_listing(changes, count), []).append(replica)
     never = [f"{told} never arrived at replica{'' if len(where) == 1 else 's'} {_joined(map(str, where))}" for told, where in alike.items()]
     lacked, is_one = "; ".join(never), len(alike) == 1 and all(count < 2 for _, (_, count) in lacking)
-    lost = "it was lost or is held back" if is_one else "they were lost or are held back"
+    lost = "Unless it was still on its way, it was lost or is held back" if is_one else "Unless they were still on their way, they were lost or are held back"
     if len(lists) < 2:
-        return [f"in this recording {lacked}. If nothing was still on its way, {lost}"] if never else []
-    differ = f"in the end replicas {_joined(map(str, sorted(sum(lists.values(), []))))} show different lists"
-    same = [f"{_joined(map(str, one))} show the same one" for one in lists.values() if len(one) > 1]
-    told = differ + (f" ({_joined(same)})" if same else "")
-    return [f"{told}: {lacked} in this recording. If nothing was still on its way, {lost}" if never else told]
+        return [f"in this recording {lacked}. {lost}"] if never else []
+    among = _joined(map(str, sorted(sum(lists.values(), []))))
+    same = [f"{_joined(map(str, one))} do" for one in lists.values() if len(one) > 1]
+    told = f"in the end replicas {among} " + (f"do not all show the same list ({'; '.join(same)})" if same else "show different lists")
+    return [f"{told}: {lacked} in this recording. {lost}" if never else told]
 
 
 def _lacked(ends: List[_End], replica: int) -> Tuple[List[str], int]:
@@ -904,7 +904,7 @@ def _unheard(ends: List[_End]) -> List[str]:
         if one.pasts and others:
             which = f"replica{'' if len(others) == 1 else 's'} {_joined(others)}"
             told.append(f"replica {replica} never hears of {which}: no receipt brings it an insert or a delete from there, so nothing "
-                        "shows how it applies these. At the end of a session let everyone receive everything, and read")
+                        "shows how it applies these. At the end of a session let everyone receive everything, and then read the list")
     return told
 
 
@@ -921,7 +921,7 @@ def _unshown(ends: List[_End]) -> List[str]:
             has = after
         if one.pasts and news:
             but = " but a view" if one.is_viewed else ""
-            told.append(f"replica {replica} received {_listing(news, len(news))} last, and nothing{but} shows how it applied "
+            told.append(f"replica {replica} received {_listing(news, len(news))} last, and shows no list{but} after "
                         f"{'that' if len(news) == 1 else 'them'}: let each replica read at the end")
     return told
 

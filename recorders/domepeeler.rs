@@ -1196,9 +1196,10 @@ impl<'a> Warned<'a> {
                     let before = names.matches(' ').count() as i64 - 1;
                     if i64::from(number(words[3])) > before {
                         warned.past_end.push(format!(
-                            "{named} inserted {} at position {}, which counts as the end of a list of length {before}: \
-                             is that the position that was asked for?",
-                            words[2], words[3]
+                            "{named} inserted {} at position {at}, past the end of a list of length {before}, so it counts as the end: \
+                             was position {at} asked for?",
+                            words[2],
+                            at = words[3]
                         ));
                     }
                 }
@@ -1212,7 +1213,7 @@ impl<'a> Warned<'a> {
         for (name, named) in deletes.into_iter().filter(|(name, _)| !inserted.contains(name)) {
             warned.of_nothing.push(format!(
                 "{named} deleted {name}, which no line inserts, so no response shows whether it was deleted: \
-                 is that its name, and was its insert recorded?"
+                 is {name} the right name, and was its insert recorded?"
             ));
         }
         warned
@@ -1226,7 +1227,7 @@ impl<'a> Warned<'a> {
         all.extend(self.unheard());
         all.extend(self.unshown());
         all.extend(self.without_operation());
-        all.extend(some(&self.of_nothing, "delete", "of what no line inserts"));
+        all.extend(some(&self.of_nothing, "delete", "of elements that no line inserts"));
         all.extend(some(&self.past_end, "insert", "past the end of a list"));
         all
     }
@@ -1268,18 +1269,21 @@ impl<'a> Warned<'a> {
         let told = |(what, at): &(String, Vec<usize>)| format!("{what} never arrived at replica{} {}", plural(at.len()), joined(at));
         let never = alike.iter().map(told).collect::<Vec<String>>().join("; ");
         let (count, is_one) = (alike.len(), alike.len() == 1 && lacking.iter().all(|(_, changes)| changes.len() < 2));
-        let lost = if is_one { "it was lost or is held back" } else { "they were lost or are held back" };
+        let lost = if is_one { "Unless it was still on its way, it was lost or is held back" } else { "Unless they were still on their way, they were lost or are held back" };
         if lists.len() < 2 {
-            let told = format!("in this recording {never}. If nothing was still on its way, {lost}");
+            let told = format!("in this recording {never}. {lost}");
             return if count == 0 { vec![] } else { vec![told] };
         }
         let mut replicas: Vec<usize> = lists.iter().flat_map(|(_, of)| of).copied().collect();
         replicas.sort_unstable();
         let same: Vec<String> =
-            lists.iter().filter(|(_, of)| of.len() > 1).map(|(_, of)| format!("{} show the same one", joined(of))).collect();
-        let same = if same.is_empty() { String::new() } else { format!(" ({})", joined(&same)) };
-        let told = format!("in the end replicas {} show different lists{same}", joined(&replicas));
-        vec![if count == 0 { told } else { format!("{told}: {never} in this recording. If nothing was still on its way, {lost}") }]
+            lists.iter().filter(|(_, of)| of.len() > 1).map(|(_, of)| format!("{} do", joined(of))).collect();
+        let differ = match same.join("; ") {
+            same if same.is_empty() => "show different lists".to_string(),
+            same => format!("do not all show the same list ({same})"),
+        };
+        let told = format!("in the end replicas {} {differ}", joined(&replicas));
+        vec![if count == 0 { told } else { format!("{told}: {never} in this recording. {lost}") }]
     }
 
     /// The changes that never arrived at the replica, with their lines; none of an author of which it never hears.
@@ -1306,7 +1310,7 @@ impl<'a> Warned<'a> {
             if !others.is_empty() {
                 told.push(format!(
                     "replica {replica} never hears of replica{} {}: no receipt brings it an insert or a delete from there, \
-                     so nothing shows how it applies these. At the end of a session let everyone receive everything, and read",
+                     so nothing shows how it applies these. At the end of a session let everyone receive everything, and then read the list",
                     plural(others.len()),
                     joined(&others)
                 ));
@@ -1342,7 +1346,7 @@ impl<'a> Warned<'a> {
                 let what = if news.len() == 1 { "that" } else { "them" };
                 let but = if is_viewed { " but a view" } else { "" };
                 told.push(format!(
-                    "replica {replica} received {} last, and nothing{but} shows how it applied {what}: let each replica read at the end",
+                    "replica {replica} received {} last, and shows no list{but} after {what}: let each replica read at the end",
                     listed(&news)
                 ));
             }

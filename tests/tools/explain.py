@@ -62,6 +62,7 @@ def stop(line: int, doing: str, *others: int) -> str:
     doing += f"; if nothing is wrong there, stop at {'another arrival' if len(others) == 1 else 'other arrivals'} ({before})" if others else ""
     asked = f"if recording.lines() == {line - 1}: breakpoint()"
     where = "where your code reads the list" if "reads the list" in doing else "where your code begins to apply a change, local or remote"
+    where += f" (the recording has {line - 1} lines then)"
     return f"|In a debugger|stop before line {line} of the trace, where {doing}. In Python, put this {where}: {asked}"
 
 
@@ -69,11 +70,11 @@ UNSHOWN = "let each replica read at the end"
 # By name: how many replicas, the entries, and lines that stand in the explanation one after the other, from the first.
 WORDS = [
     ("accepted", 2, "0 ins a 0 : a|1 recv 0 1|1 ins b 1 : a b|0 recv 1 1|0 read : a b",
-     "accepted: all 3 responses fit one order of the elements.||The first order that fits all responses, with deleted elements|a b||"
+     "accepted: all 3 responses fit one order of the elements.||One order that fits all responses (deleted elements included)|a b||"
      "The list specifications|strong and weak hold"),
     ("accepted, nothing", 1, "", "accepted, with a warning: there was no response to judge.||What this verdict may hide|"
-     "nothing was recorded: the trace has no entry, so the verdict says nothing of an editor||The first order that fits all responses, "
-     "with deleted elements|(there are no elements)||The list specifications|strong and weak hold"),
+     "nothing was recorded: the trace has no entry, so the verdict says nothing of an editor||One order that fits all responses "
+     "(deleted elements included)|(there are no elements)||The list specifications|strong and weak hold"),
     ("two concurrent inserts", 2, "0 ins a 0 : a|1 ins b 0 : b|0 recv 1 1|1 recv 0 1|0 read : a b|1 read : b a",
      "refused 2: two responses can't be right together.|"
      "[a] before [b]: line 7 of the trace, 0.2: replica 0 read the list, answered [a] [b]|"
@@ -89,10 +90,10 @@ WORDS = [
      "[a] before [b]: line 5 of the trace, 1.1: replica 1 inserted b at position 1, answered [a] [b]|"
      "[b] before [a]: line 7, 0.2: replica 0 read the list, answered [b] [a]|"
      "a arrived at replica 1 in line 4, b at replica 0 in line 6|"
-     "Look at where a replica places an incoming insert: 1.1 (line 5) inserted b when its replica had a, so their order was set, yet two "
-     "responses differ. Often the number that orders inserts does not grow when changes arrive, or the neighbour is not found.|"
-     "If the list is sorted by position identifiers, print those of a and b at line 5: if they are not in this order, look at how that of b "
-     "is made there; else at how they are compared (numbers not as text)." + stop(6, "replica 0 applies 1.1", 4)),
+     "Look at where a replica places an incoming insert: when 1.1 (line 5) inserted [b], its replica had [a] already, so their order was "
+     "fixed; yet two responses differ about it. Often the clock that decides between inserts does not advance when changes arrive, or the neighbour is not found.|"
+     "If the list is sorted by position identifiers, print those of a and b at line 5. If they do not rise in this order, look at how the "
+     "one of b was made; if they do, at how identifiers are compared (numbers must not be compared as text)." + stop(6, "replica 0 applies 1.1", 4)),
     ("three-way cycle", 3, THREE_WAY,
      "refused 3: three responses can't be right together. Any two of them can.|"
      "[x] before [b]: line 7 of the trace, 2.1: replica 2 inserted b at position 1, answered [x] [b]|"
@@ -115,13 +116,13 @@ WORDS = [
      "d: inserted by 0.3 (line 9)|c: inserted by 1.1 (line 5)|"
      "d was put behind b. When it arrived at replica 1 in line 10, b was already deleted there by 1.2 (line 8)|"
      "c arrived at replica 0 in line 6, d at replica 1 in line 10||Where to look|"
-     "Look at inserts beside deleted elements, if inserts find their place by a neighbour and replicas throw deleted elements away: the lines above name an insert that arrived where its "
+     "If inserts find their place by a neighbour and replicas throw deleted elements away, look at inserts beside deleted elements: the lines above name an insert that arrived where its "
      "neighbour had been deleted. Without that neighbour nothing says where the insert belongs.|"
-     "Look at where a replica places an incoming insert: 0.3 (line 9) inserted d when its replica had c, so their order was set, yet two "
-     "responses differ. Often the number that orders inserts does not grow when changes arrive, or the neighbour is not found. If the editor "
-     "sends positions, the position of d was perhaps not adjusted for the delete of b by 1.2 (line 8), which replica 1 had and the author of d had not.|"
-     "If the list is sorted by position identifiers, print those of b, d and c at line 9: if they are not in this order, look at how that "
-     "of d is made there; else at how they are compared (numbers not as text)." + stop(10, "replica 1 applies 0.3", 6)),
+     "Look at where a replica places an incoming insert: when 0.3 (line 9) inserted [d], its replica had [c] already, so their order was "
+     "fixed; yet two responses differ about it. Often the clock that decides between inserts does not advance when changes arrive, or the neighbour is not found. If the editor "
+     "sends positions, the position of d was perhaps not adjusted for the delete of b by 1.2 (line 8), which replica 1 knew and the author of d did not.|"
+     "If the list is sorted by position identifiers, print those of b, d and c at line 9. If they do not rise in this order, look at how "
+     "the one of d was made; if they do, at how identifiers are compared (numbers must not be compared as text)." + stop(10, "replica 1 applies 0.3", 6)),
     ("an insert between two that are deleted by others", 3, "0 ins a 0 : a|0 ins b 1 : a b|1 recv 0 2|2 recv 0 2|2 ins c 1 : a c b|1 del a : b|"
      "0 del b : a|1 recv 0 3|1 read :|1 ins d 0 : d|1 recv 2 1|1 read : c d|2 recv 1 3|2 read : d c",
      "[d] before [c]: line 16 of the trace, 2.2: replica 2 read the list, answered [d] [c]|"
@@ -130,25 +131,25 @@ WORDS = [
      "(line 9)|c arrived at replica 1 in line 13, d at replica 2 in line 15"),
     ("a session that goes on", 2, f"{BESIDE_DELETED}|0 recv 1 2|0 read : d c|1 read : c d",
      "When it went wrong|line 11 of the trace, 1.3: replica 1 read the list. Up to line 10 the session is accepted; line 11 leads to `refused 2`|"
-     "before it: 1.2 (line 8) still fits; since then replica 1 received 0.3 (line 10)|"
-     "in the end replicas 0 and 1 have every change and show different lists, though perhaps the same text||"
-     "What they show: each element before the next, in a circle|"
+     "before it: replica 1's 1.2 (line 8) fits; since then it received 0.3 (line 10)|"
+     "in the end replicas 0 and 1 have every change, by their receipts, and show the same elements in different orders||"
+     "What they show: a circle, which no order allows|"
      "[d] before [c]: line 9, 0.3: replica 0 inserted d at position 1, answered b [d] [c]|"
      "[c] before [d]: line 11, 1.3: replica 1 read the list, answered [c] [d]||The elements|"
      "c arrived at replica 0 in line 6, d at replica 1 in line 10||"
      "Where to look" + stop(10, "replica 1 applies 0.3", 6)),
     ("a session that goes on, with one list in the end", 2, f"{BESIDE_DELETED}|0 recv 1 2|0 read : c d",
      "When it went wrong|line 11 of the trace, 1.3: replica 1 read the list. Up to line 10 the session is accepted; line 11 leads to `refused 2`|"
-     "before it: 1.2 (line 8) still fits; since then replica 1 received 0.3 (line 10)|"
-     "in the end replicas 0 and 1 have every change and show the same list||Where to look" + stop(10, "replica 1 applies 0.3", 6)),
+     "before it: replica 1's 1.2 (line 8) fits; since then it received 0.3 (line 10)|"
+     "in the end replicas 0 and 1 have every change, by their receipts, and show the same list||Where to look" + stop(10, "replica 1 applies 0.3", 6)),
     ("a beginning that shows something else", 3, f"{THREE_WAY}|1 recv 0 2|1 recv 2 1|1 read : a b",
-     "refused 3: three responses can't be right together. Any two of them can. The first 11 lines show this; the whole trace is "
-     "`refused 2`, as told below.||"
+     "refused 3: three responses can't be right together. Any two of them can. This is the verdict on the first 11 lines; the "
+     "whole trace gets `refused 2` (see below).||"
      "When it went wrong|line 11 of the trace, 0.3: replica 0 read the list. Up to line 10 the session is accepted; line 11 leads to "
      "`refused 3`|"
-     "before it: 0.2 (line 8) still fits; since then replica 0 received 1.1 (line 9), 2.1 (line 10)|"
-     "in the end replicas 0 and 1 have every change and show different lists, though perhaps the same text||"
-     "What they show: each element before the next, in a circle|"
+     "before it: replica 0's 0.2 (line 8) fits; since then it received 1.1 (line 9), 2.1 (line 10)|"
+     "in the end replicas 0 and 1 have every change, by their receipts, and show the same elements in different orders||"
+     "What they show: a circle, which no order allows|"
      "[x] before [b]: line 7, 2.1: replica 2 inserted b at position 1, answered [x] [b]|"
      "[b] before [a]: line 11, 0.3: replica 0 read the list, answered [b] [a]|"
      "[a] before [x]: line 6, 1.1: replica 1 inserted a at position 0, answered [a] [x]||The elements|"
@@ -157,15 +158,13 @@ WORDS = [
      "Where to look|"
      "Look at positions beside deleted elements: any two of 2.1, 0.3 and 1.1 fit together, but perhaps an insert lost its place "
      "because its neighbour was deleted elsewhere. The lines above say which elements each response no longer has.|"
-     "Of the whole trace: Look at inserts beside deleted elements, if inserts find their place by a neighbour and replicas throw deleted elements away: the lines above name an insert that arrived "
+     "For the whole trace: if inserts find their place by a neighbour and replicas throw deleted elements away, look at inserts beside deleted elements: the lines above name an insert that arrived "
      "where its neighbour had been deleted. Without that neighbour nothing says where the insert belongs.|"
-     "Of the whole trace: Look at the order of concurrent inserts: a and b were inserted without knowing of each other, and were shown in two "
+     "For the whole trace: look at the order of concurrent inserts: a and b were inserted without knowing of each other, and were shown in two "
      "different orders. Use a rule that gives the same order everywhere (such as the replicas' numbers), and not the order of "
      "arrival. If the editor sends positions, the position of b was perhaps not adjusted for the delete of x by 0.2 (line 8), which replica 1 "
-     "had and the author of b had not; or the position of the delete was not adjusted for another insert.|"
-     "An editor whose server orders all changes, as Jupiter's does, promises only the weak list specification, and up to line 11 that "
-     "holds. To ask for that only, use --weak."
-     + stop(10, "replica 0 applies 2.1", 9, 5, 4) + "||What the whole trace shows: each element before the next, in a circle|"
+     "knew and the author of b did not; or the position of the delete was not adjusted for another insert.|"
+     "" + stop(10, "replica 0 applies 2.1", 9, 5, 4) + "||What the whole trace shows: a circle, which no order allows|"
      "[a] before [b]: line 14, 1.2: replica 1 read the list, answered [a] [b]|"
      "[b] before [a]: line 11, 0.3: replica 0 read the list, answered [b] [a]"),
     ("a neighbour that its replica deleted before another's delete arrived", 2, "0 ins x 0 : x|1 recv 0 1|1 ins b 1 : x b|1 del x : b|"
@@ -175,18 +174,18 @@ WORDS = [
      "1 read : c a",
      "[a] before [c]: line 5 of the trace, 0.3: replica 0 inserted c at position 2, answered [a] b [c]|"
      "[c] before [a]: line 9, 1.3: replica 1 read the list, answered [c] [a]|c: inserted by 0.3 (line 5)|"
-     "c was put behind b, which was already deleted at 1.3 (line 9)|c arrived at replica 1 in line 6, a at replica 1 in line 6" + stop(6, "replica 1 applies 0.3")),
+     "c was put behind b. At 1.3 (line 9), b was deleted already, by 1.2 (line 8)|c arrived at replica 1 in line 6, a at replica 1 in line 6" + stop(6, "replica 1 applies 0.3")),
     ("an element between two that are deleted later", 2, "0 ins a 0 : a|0 ins b 1 : a b|0 ins c 1 : a c b|0 ins d 3 : a c b d|1 recv 0 4|"
      "1 read : a c b d|1 del a : c b d|1 del b : c d|1 read : d c",
-     "c was put behind a and before b, which were already deleted at 1.4 (line 11)"),
+     "c was put behind a and before b. At 1.4 (line 11), a was deleted already, by 1.2 (line 9) and b was deleted already, by 1.3 (line 10)"),
     ("a ring of three that hear of one another", 3, "0 ins a 0 : a|1 ins b 0 : b|2 ins c 0 : c|0 recv 1 1|0 read : a b|1 recv 2 1|"
      "1 read : b c|2 recv 0 1|2 read : c a",
      "[a] before [b]: line 7 of the trace, 0.2: replica 0 read the list, answered [a] [b]|"
      "[b] before [c]: line 9, 1.2: replica 1 read the list, answered [b] [c]|"
      "[c] before [a]: line 11, 2.2: replica 2 read the list, answered [c] [a]|"
      "b arrived at replica 0 in line 6, c at replica 1 in line 8, a at replica 2 in line 10|"
-     "Look at how a replica orders elements when it has only some of them: any two of 0.2, 1.2 and 2.2 fit together. What each response "
-     "leaves out was not deleted by then, so its replica had not received it yet. Often the rule that orders concurrent inserts is not the same everywhere."
+     "Look at how a replica orders elements when it has only some of them: any two of 0.2, 1.2 and 2.2 fit together. An element that "
+     "such a response lacks was not deleted by then: it had not arrived at that replica yet. Often the rule that orders concurrent inserts is not the same everywhere."
      + stop(10, "replica 2 applies 0.1", 8, 6)),
     ("an element that came along with what had seen it", 3, "0 ins a 0 : a|1 recv 0 1|1 read : a|1 ins b 1 : a b|2 recv 1 1|2 recv 1 2|"
      "2 recv 0 1|2 read : b a",
@@ -199,44 +198,44 @@ WORDS = [
      "Where to look" + stop(5, "replica 0 reads the list")),
     ("an element lost that came by way of another replica", 3,
      "0 ins a 0 : a|1 recv 0 1|1 ins b 1 : a b|2 recv 1 1|2 read : b",
-     "contents 2.1: this response lacks one element that replica 2 had by then.|"
+     "contents 2.1: this response lacks one element that replica 2 should have had by then.|"
      "line 7 of the trace, 2.1: replica 2 read the list|answered: b|it should hold, in any order: b [a]|"
      "before it: replica 2 did nothing, and received 1.1 (line 6)|Missing|"
-     "[a] inserted by 0.1 (line 3), arrived at replica 1 in line 4 (1 recv 0 1), and from there arrived at replica 2 in line 6 "
+     "[a] inserted by 0.1 (line 3), which arrived at replica 1 in line 4 (1 recv 0 1), and from there arrived at replica 2 in line 6 "
      "(2 recv 1 1)|[a] 0.1 has no receipt of its own at replica 2, and counts as arrived with 1.1 (line 5), whose author had it. If "
-     "each operation travels by itself, 0.1 had not arrived before: that order is not causal|[a] no operation deletes it||Where to look|"
-     "Look first at whether 0.1 was lost on its way to replica 2: no receipt there names it. If it was overtaken, look at the order in which "
-     "operations arrive. Apply an operation only after everything that its author had seen, or send that with it. If the editor itself holds "
-     f"operations back, write the receipt of each only when it is applied. {GUIDE} has both ways."),
+     "each operation travels by itself, 1.1 arrived without 0.1: that is not causal order|[a] no operation deletes it||Where to look|"
+     "Look first at whether 0.1 was lost on its way to replica 2: no receipt there names it. If it was not lost but overtaken, look at the order in which "
+     "operations arrive. Apply an operation only after everything that its author had seen, or send all of that together with it. If the editor itself holds "
+     f"operations back, write the receipt of each only when it is applied. {GUIDE} shows how to record either."),
     ("an element lost that arrived after what had seen it", 3,
      "0 ins a 0 : a|1 recv 0 1|1 ins b 1 : a b|2 recv 1 1|2 recv 0 1|2 read : b",
      "line 8 of the trace, 2.1: replica 2 read the list|[a] 0.1's own receipt comes only in line 7 (2 recv 0 1). 1.1, whose author "
-     "already had 0.1, overtook it in line 6: that order is not causal|[a] no operation deletes it" + stop(6, "replica 2 applies 1.1")),
+     "already had 0.1, overtook it in line 6: that is not causal order|[a] no operation deletes it" + stop(6, "replica 2 applies 1.1")),
     ("an element lost that arrived by itself before", 3,
      "0 ins a 0 : a|2 recv 0 1|1 recv 0 1|1 ins b 1 : a b|2 recv 1 1|2 read : b",
-     "[a] inserted by 0.1 (line 3), arrived at replica 2 in line 4 (2 recv 0 1)|[a] no operation deletes it"),
+     "[a] inserted by 0.1 (line 3), which arrived at replica 2 in line 4 (2 recv 0 1)|[a] no operation deletes it"),
     ("an element of one's own lost, whose delete has not arrived", 2, "0 ins a 0 : a|1 recv 0 1|1 del a :|0 read :|0 recv 1 1",
-     "contents 0.2: this response lacks one element that replica 0 had by then.|"
+     "contents 0.2: this response lacks one element that replica 0 should have had by then.|"
      "answered: (nothing)|it should hold, in any order: [a]|"
-     "before it: 0.1 (line 3) is still right; since then replica 0 received nothing|"
+     "before it: replica 0's 0.1 (line 3) is right; since then it received nothing|"
      "[a] inserted by 0.1 (line 3), an earlier operation of replica 0|"
      "[a] deleted by 1.1 (line 5), and replica 0's first receipt of it is line 7 (0 recv 1 1), after this response" + stop(6, "replica 0 reads the list")),
     ("a deleted element shown", 2, "0 ins a 0 : a|0 del a :|1 recv 0 2|1 read : a",
      "contents 1.1: this response has one element that should not be there.|"
      "answered: [a]|it should hold, in any order: (nothing)|Extra|"
-     "[a] inserted by 0.1 (line 3), arrived at replica 1 in line 5 (1 recv 0 2)|"
-     "[a] deleted by 0.2 (line 4), arrived at replica 1 in line 5 (1 recv 0 2)"),
+     "[a] inserted by 0.1 (line 3), which counts as arrived at replica 1 with 0.2 in line 5 (1 recv 0 2)|"
+     "[a] deleted by 0.2 (line 4), which arrived at replica 1 in line 5 (1 recv 0 2)"),
     ("a deleted element shown, beside one that was there", 2, "0 ins a 0 : a|0 ins b 1 : a b|1 recv 0 2|1 read : a b|0 del b : a|1 recv 0 3|1 read : a b",
      "contents 1.2: this response has one element that should not be there.|answered: a [b]|it should hold, in any order: a|Extra|"
-     "[b] inserted by 0.2 (line 4), arrived at replica 1 in line 5 (1 recv 0 2)|"
-     "[b] was put behind a, which was not deleted there when b arrived (line 5)|"
-     "[b] deleted by 0.3 (line 7), arrived at replica 1 in line 8 (1 recv 0 3)"),
+     "[b] inserted by 0.2 (line 4), which arrived at replica 1 in line 5 (1 recv 0 2)|"
+     "[b] was put behind a. When it arrived at replica 1 in line 5, a was not deleted there|"
+     "[b] deleted by 0.3 (line 7), which arrived at replica 1 in line 8 (1 recv 0 3)"),
     ("a deleted element shown, beside one that was deleted", 2, "0 ins a 0 : a|1 recv 0 1|1 read : a|0 ins b 1 : a b|1 del a :|1 recv 0 2|1 read : b|"
      "0 del b : a|1 recv 0 3|1 read : b",
      "contents 1.4: this response has one element that should not be there.|answered: [b]|it should hold, in any order: (nothing)|Extra|"
-     "[b] inserted by 0.2 (line 6), arrived at replica 1 in line 8 (1 recv 0 2)|"
+     "[b] inserted by 0.2 (line 6), which arrived at replica 1 in line 8 (1 recv 0 2)|"
      "[b] was put behind a. When it arrived at replica 1 in line 8, a was already deleted there by 1.2 (line 7)|"
-     "[b] deleted by 0.3 (line 10), arrived at replica 1 in line 11 (1 recv 0 3)"),
+     "[b] deleted by 0.3 (line 10), which arrived at replica 1 in line 11 (1 recv 0 3)"),
     ("an element shown that never arrived", 2, "0 ins a 0 : a|1 read : a",
      "Extra|[a] inserted by 0.1 (line 3), and replica 1 has no receipt of it"),
     ("an element shown before it is inserted", 1, "0 read : a|0 ins a 0 : a",
@@ -246,7 +245,7 @@ WORDS = [
     ("a name twice", 1, "0 ins a 0 : a|0 read : a a", "answered: [a] [a]|it should hold, in any order: a|Named more than once|"
      "[a] inserted by 0.1 (line 3), an earlier operation of replica 0"),
     ("a change that is applied twice", 2, "0 ins a 0 : a|0 ins b 1 : a b|1 recv 0 2|1 read : a b a", "Named more than once|"
-     "[a] inserted by 0.1 (line 3), arrived at replica 1 in line 5 (1 recv 0 2)||Where to look|"
+     "[a] inserted by 0.1 (line 3), which counts as arrived at replica 1 with 0.2 in line 5 (1 recv 0 2)||Where to look|"
      "It looks as if 0.1 (line 3) was applied twice at replica 1: look at what the editor does with a change that arrives a second time, and at "
      "whether one that waits is applied when it arrives as well."),
     ("its own changes that come back", 1, "0 ins a 0 : a|0 ins b 1 : a b|0 read : a b a b", "Named more than once||Where to look|"
@@ -257,80 +256,80 @@ WORDS = [
     ("a deleted element in a view", 1, "0 ins a 0 : a|0 ins b 1 : a b|0 del a : b|0 view : a",
      "contents 0.4: this view has one element that should not be there.|"
      "line 6 of the trace, 0.4: replica 0 showed a part of the list|answered: [a]|it may hold any part of what replica 0 had by then: b|"
-     "before it: 0.3 (line 5) is still right; since then replica 0 received nothing|Extra|"
+     "before it: replica 0's 0.3 (line 5) is right; since then it received nothing|Extra|"
      "[a] inserted by 0.1 (line 3), an earlier operation of replica 0|[a] deleted by 0.3 (line 5), an earlier operation of replica 0"),
     ("a name twice in a view", 1, "0 ins a 0 : a|0 view : a a", "answered: [a] [a]|it may hold any part of what replica 0 had by then: a|"
      "Named more than once|[a] inserted by 0.1 (line 3), an earlier operation of replica 0"),
     ("a read after a view", 1, "0 ins a 0 : a|0 view :|0 read :",
-     "contents 0.3: this response lacks one element that replica 0 had by then.|"
-     "answered: (nothing)|it should hold, in any order: [a]|before it: 0.2 (line 4) is still right; since then replica 0 received nothing|Missing"),
+     "contents 0.3: this response lacks one element that replica 0 should have had by then.|"
+     "answered: (nothing)|it should hold, in any order: [a]|before it: replica 0's 0.2 (line 4) is right; since then it received nothing|Missing"),
     ("a view against an insert", 2, "0 ins a 0 : a|0 ins b 1 : a b|0 ins c 2 : a b c|1 recv 0 3|1 view : c a",
      "refused 2: two responses can't be right together.|"
      "[a] before [c]: line 5 of the trace, 0.3: replica 0 inserted c at position 2, answered [a] b [c]|"
      "[c] before [a]: line 7, 1.1: replica 1 showed a part of the list, answered [c] [a]"),
     ("accepted, with a view", 2, "0 ins a 0 : a|0 ins b 1 : a b|1 recv 0 2|1 view : b",
      "accepted, with a warning: all 3 responses fit one order of the elements.||What this verdict may hide|replica 1 received 0.2 (line 5) last, "
-     f"and nothing but a view shows how it applied that: {UNSHOWN}||The first order that fits all responses, with deleted elements|a b"),
+     f"and shows no list but a view after that: {UNSHOWN}||One order that fits all responses (deleted elements included)|a b"),
     ("past the end, elsewhere", 1, "0 ins a 0 : a|0 ins b 4294967295 : b a",
-     "position 0.2: b does not stand where it was asked for.|"
+     "position 0.2: b is not at the position that was asked for.|"
      "line 4 of the trace, 0.2: replica 0 inserted b at position 4294967295|answered: [b] [a]|"
      "asked for: position 4294967295, past the end, so the last place (1); the answer has [a] there|found at: position 0"),
     ("a position", 1, "0 ins a 0 : a|0 ins b 1 : a b|0 ins c 1 : a b c",
      "answered: a [b] [c]|asked for: position 1; the answer has [b] there|found at: position 2" + stop(5, "replica 0 inserts c")),
     ("an insert that was deleted before", 2, "1 del a :|0 recv 1 1|0 ins a 0 :",
-     "position 0.1: a does not stand where it was asked for.|"
-     "asked for: a place in the list, but the response is empty|"
-     "found at: no position: deleted by 1.1 (line 3), arrived at replica 0 in line 4 (0 recv 1 1)"),
+     "position 0.1: a is not at the position that was asked for.|"
+     "asked for: position 0, but the response is empty|"
+     "found at: no position, since it was deleted by 1.1 (line 3), which arrived at replica 0 in line 4 (0 recv 1 1)"),
     ("an insert whose number is not great enough", 2, "0 ins a 0 : a|0 ins b 0 : b a|1 recv 0 2|1 ins c 0 : b c a",
-     "position 1.1: c does not stand where it was asked for.|asked for: position 0; the answer has [b] there|found at: position 1||"
+     "position 1.1: c is not at the position that was asked for.|asked for: position 0; the answer has [b] there|found at: position 1||"
      "Where to look|"
-     "Look at the numbers that order inserts at one place, if the editor has such (a clock, ids): c stands behind b, which replica 1 had "
-     "already. The number that c has must be greater than that of b; perhaps it is not. Usual causes: the clock does not advance when changes arrive; the "
-     'replica is compared before the number; ids are compared as text, so 10 comes before 9.|If the list is sorted by position identifiers, print those of c and b at line 6: if they are not in this order, look at how that of c '
-     'is made there; else at how they are compared (numbers not as text).|If the editor has no such numbers: look at how the position that a user sees is mapped to a place '
+     "If the editor decides by numbers (a clock, ids) which of two inserts at one place comes first, look at these: c stands behind b, which replica 1 had "
+     "already. The number that c has must be greater than that of b; perhaps it is not. Usual causes: the clock does not advance when changes arrive; "
+     'replicas are compared before clocks; ids are compared as text, so 10 comes before 9.|If the list is sorted by position identifiers, print those of c and b at line 6. If they do not rise in this order, look '
+     'at how the one of c was made; if they do, at how identifiers are compared (numbers must not be compared as text).|If neither fits your editor: look at how the position that a user sees is mapped to a place '
      "in the editor's own list; and at whether the recorder writes the position that was asked for." + stop(6, "replica 1 inserts c")),
     ("a position before the one that was asked for, beside a deleted element", 1, "0 ins a 0 : a|0 ins b 1 : a b|0 del a : b|0 ins c 1 : c b",
      "asked for: position 1; the answer has [b] there|found at: position 0||Where to look|"
      "Look at how the position that a user sees is mapped to a place in the editor's own list, where deleted elements may still stand; and "
-     "at whether the recorder writes the position that was asked for.|If the list is sorted by position identifiers, print those of b and c at line 6: if they are not in this order, look at how that of c "
-     "is made there; else at how they are compared (numbers not as text)." + stop(6, "replica 0 inserts c")),
+     "at whether the recorder writes the position that was asked for.|If the list is sorted by position identifiers, print those of b and c at line 6. If they do not rise in this order, look at how the "
+     "one of c was made; if they do, at how identifiers are compared (numbers must not be compared as text)." + stop(6, "replica 0 inserts c")),
     ("a second delete of one element takes its neighbour", 2, "0 ins a 0 : a|0 ins b 1 : a b|1 recv 0 2|1 read : a b|0 del a : b|1 del a : b|"
      "1 recv 0 3|1 read :",
-     "contents 1.3: this response lacks one element that replica 1 had by then.|answered: (nothing)|"
-     "it should hold, in any order: [b]|before it: 1.2 (line 8) is still right; since then replica 1 received 0.3 (line 9)|"
-     "Missing|[b] inserted by 0.2 (line 4), arrived at replica 1 in line 5 (1 recv 0 2)|"
-     "[b] was put behind a, which was not deleted there when b arrived (line 5)|[b] no operation deletes it||"
+     "contents 1.3: this response lacks one element that replica 1 should have had by then.|answered: (nothing)|"
+     "it should hold, in any order: [b]|before it: replica 1's 1.2 (line 8) is right; since then it received 0.3 (line 9)|"
+     "Missing|[b] inserted by 0.2 (line 4), which arrived at replica 1 in line 5 (1 recv 0 2)|"
+     "[b] was put behind a. When it arrived at replica 1 in line 5, a was not deleted there|[b] no operation deletes it||"
      "Where to look|"
-     "0.3 (line 7) deletes a, already deleted at replica 1 by 1.2 (line 8): look at what the editor does with a delete whose element is gone. It may "
-     "have deleted b instead." + stop(9, "replica 1 applies 0.3")),
+     "0.3 (line 7) deletes a, already deleted at replica 1 by 1.2 (line 8): look at what the editor does with a delete whose element is gone. The "
+     "editor may have deleted b instead." + stop(9, "replica 1 applies 0.3")),
     ("a delete of one's own after another's", 2, "0 ins a 0 : a|0 ins b 1 : a b|1 recv 0 2|1 del a : b|0 recv 1 1|0 del a :",
-     "contents 0.3: this response lacks one element that replica 0 had by then.|"
-     "0.3 (line 8) deletes a, already deleted at replica 0 by 1.1 (line 6): look at what the editor does with a delete whose element is gone. It may "
-     "have deleted b instead." + stop(7, "replica 0 applies 1.1")),
+     "contents 0.3: this response lacks one element that replica 0 should have had by then.|"
+     "0.3 (line 8) deletes a, already deleted at replica 0 by 1.1 (line 6): look at what the editor does with a delete whose element is gone. The "
+     "editor may have deleted b instead." + stop(7, "replica 0 applies 1.1")),
     ("an element lost whose neighbour was deleted where it arrived", 2, "0 ins a 0 : a|0 ins b 1 : a b|1 recv 0 2|1 read : a b|0 ins c 1 : a c b|1 del a : b|"
      "1 recv 0 3|1 read : b",
-     "contents 1.3: this response lacks one element that replica 1 had by then.|Missing|"
-     "[c] inserted by 0.3 (line 7), arrived at replica 1 in line 9 (1 recv 0 3)|"
+     "contents 1.3: this response lacks one element that replica 1 should have had by then.|Missing|"
+     "[c] inserted by 0.3 (line 7), which arrived at replica 1 in line 9 (1 recv 0 3)|"
      "[c] was put behind a and before b. When it arrived at replica 1 in line 9, a was already deleted there by 1.2 (line 8)|[c] no operation deletes it||"
      "Where to look|"
-     "Look at inserts beside deleted elements, if inserts find their place by a neighbour: when c arrived, its neighbour was already deleted there, as told above. An editor that throws deleted elements "
+     "If inserts find their place by a neighbour, look at inserts beside deleted elements: when c arrived, its neighbour was already deleted there, as told above. An editor that throws deleted elements "
      "away too early finds no place for it, and loses it or holds it back for ever." + stop(9, "replica 1 applies 0.3")),
     ("an element lost beside two that are there", 2, "0 ins a 0 : a|0 ins b 1 : a b|0 ins c 1 : a c b|1 recv 0 3|1 read : a b",
-     "[c] was put behind a and before b, which were not deleted there when c arrived (line 6)"),
+     "[c] was put behind a and before b. When it arrived at replica 1 in line 6, a and b were not deleted there"),
     ("a change that a later one of its author overtook", 2, "0 ins a 0 : a|0 ins b 1 : a b|0 ins c 2 : a b c|1 recv 0 1|1 recv 0 3|1 read : a c|1 recv 0 2|"
      "1 read : a b c",
-     "contents 1.1: this response lacks one element that replica 1 had by then.|Missing|"
-     "[b] inserted by 0.2 (line 4), arrived at replica 1 in line 7 (1 recv 0 3)|"
-     "[b] 0.2's own receipt comes only in line 9 (1 recv 0 2). 0.3 overtook it in line 7: that order is not causal|[b] no operation deletes it|"
-     "Look at the order in which operations arrive: 0.2 was overtaken, as told above. Apply an operation only after everything that its author had seen, or send that with it. If the editor itself holds "
-     f"operations back, write the receipt of each only when it is applied. {GUIDE} has both ways."
+     "contents 1.1: this response lacks one element that replica 1 should have had by then.|Missing|"
+     "[b] inserted by 0.2 (line 4), which counts as arrived at replica 1 with 0.3 in line 7 (1 recv 0 3)|"
+     "[b] 0.2's own receipt comes only in line 9 (1 recv 0 2). 0.3 overtook it in line 7: that is not causal order|[b] no operation deletes it|"
+     "Look at the order in which operations arrive: 0.2 was overtaken, as told above. Apply an operation only after everything that its author had seen, or send all of that together with it. If the editor itself holds "
+     f"operations back, write the receipt of each only when it is applied. {GUIDE} shows how to record either."
      + stop(7, "replica 1 applies 0.3")),
     ("a change without a receipt, as each other of its author has one", 2, "0 ins a 0 : a|0 ins b 1 : a b|0 ins c 2 : a b c|0 ins d 3 : a b c d|1 recv 0 1|"
      "1 read : a|1 recv 0 3|1 read : a c|1 recv 0 4|1 read : a c d",
-     "[b] 0.2 has no receipt of its own at replica 1, though all other changes of replica 0 have one. It was lost, or 0.3 overtook it in line 9"),
+     "[b] 0.2 has no receipt of its own at replica 1, though all other changes of replica 0 have one. 0.2 was lost, or 0.3 overtook it in line 9"),
     ("one receipt for several changes of an author", 2, "0 ins a 0 : a|0 ins b 1 : a b|0 ins c 2 : a b c|1 recv 0 3|1 read : a c",
-     "[b] inserted by 0.2 (line 4), arrived at replica 1 in line 6 (1 recv 0 3)|"
-     "[b] was put behind a, which was not deleted there when b arrived (line 6)|[b] no operation deletes it||Where to "
+     "[b] inserted by 0.2 (line 4), which counts as arrived at replica 1 with 0.3 in line 6 (1 recv 0 3)|"
+     "[b] was put behind a. When it arrived at replica 1 in line 6, a was not deleted there|[b] no operation deletes it||Where to "
      "look|It looks as if 0.2 (line 4) was not applied at replica 1: lost, or held back, or `received` is called before the change is applied.|No "
      "receipt at replica 1 names 0.2 (line 4): the recording counts it as arrived with 0.3 (line 5). If you record a receipt for each change, "
      "0.3 (line 5) overtook it, or it was lost."),
@@ -343,19 +342,19 @@ WORDS = [
      "rule that gives the same order everywhere (such as the replicas' numbers), and not the order of arrival."),
     ("a delete that meets an insert and a delete which did not know each other", 2, "0 ins a 0 : a|0 ins b 1 : a b|0 ins c 2 : a b c|1 recv 0 3|"
      "1 read : a b c|0 del a : b c|1 ins d 3 : a b c d|0 recv 1 2|0 read : b c d|1 del c : a b d|0 recv 1 3|0 read : b c",
-     "It looks as if 1.3 (line 12) deleted d instead of c: look at how a delete finds its element where it is applied, and at whether the recorder "
+     "It looks as if 1.3 (line 12), applied at replica 0, deleted d instead of c: look at how a replica that applies a delete finds the element, and at whether the recorder "
      "names the element that was deleted. If the editor sends positions, the position of 1.3 was perhaps not adjusted for the delete of a by 0.4 (line 8), which the author of 1.3 had not seen; or an earlier insert was not adjusted for another delete." + stop(13, "replica 0 applies 1.3")),
     ("a delete that takes what is deleted later", 2, "0 ins a 0 : a|0 ins b 1 : a b|1 recv 0 2|1 read : a b|1 del a : b|0 ins c 0 : c a b|0 recv 1 2|"
      "0 read : a b|0 del c : a b",
-     "It looks as if 1.2 (line 7) deleted c instead of a: look at how a delete finds its element where it is applied, and at whether the recorder "
+     "It looks as if 1.2 (line 7), applied at replica 0, deleted c instead of a: look at how a replica that applies a delete finds the element, and at whether the recorder "
      "names the element that was deleted. If the editor sends positions, the position of 1.2 was perhaps not adjusted for the insert of c by 0.3 (line 8), which the author of 1.2 had not seen." + stop(9, "replica 0 applies 1.2")),
     ("an insert that another one at its place has shifted", 2, "0 ins b 0 : b|0 ins c 0 : c b|1 ins a 0 : a|1 recv 0 1|1 read : a b|1 recv 0 2|"
      "1 read : a b c",
-     "Look at where a replica places an incoming insert: 0.2 (line 4) inserted c when its replica had b, so their order was set, yet two responses "
-     "differ. Often the number that orders inserts does not grow when changes arrive, or the neighbour is not found. a was inserted at the same "
-     "place as c, and neither author had seen the other's insert. Look also at which comes first there." + stop(8, "replica 1 applies 0.2", 6)),
+     "Look at where a replica places an incoming insert: when 0.2 (line 4) inserted [c], its replica had [b] already, so their order was fixed; "
+     "yet two responses differ about it. Often the clock that decides between inserts does not advance when changes arrive, or the neighbour is not found. a was inserted at the same "
+     "place as c, and neither author had seen the other's insert. Look also at which of them comes first." + stop(8, "replica 1 applies 0.2", 6)),
     ("a receipt that comes before the change is applied", 2, "0 ins a 0 : a|1 recv 0 1|1 read : a|0 ins b 1 : a b|0 del a : b|1 recv 0 3|1 read : a",
-     "contents 1.2: this response lacks one element that replica 1 had by then, and has one element that should not be there.||"
+     "contents 1.2: this response lacks one element that replica 1 should have had by then, and has one element that should not be there.||"
      "Where to look|"
      "It looks as if 0.2 (line 6) and 0.3 (line 7) were not applied at replica 1: lost, or held back, or `received` is called before the change "
      "is applied." + stop(8, "replica 1 applies 0.3")),
@@ -366,12 +365,12 @@ WORDS = [
      "late, or names another operation." + stop(8, "replica 1 reads the list")),
     ("an element lost that was there before, beside one that came", 2, "0 ins a 0 : a|1 recv 0 1|1 read : a|0 ins b 1 : a b|1 recv 0 2|1 read : b",
      "Missing|[a] no operation deletes it||Where to look|"
-     "Look in this order. Recorder: `received` must be called right after the change is applied. Transport: no change may arrive before "
-     f"those that its author had seen. Editor: does it lose a change, apply it twice, or apply it to another element? {GUIDE} says where the calls "
+     "Check three things, one after the other. Recorder: `received` must be called right after the change is applied. Transport: a change must arrive after "
+     f"all those that its author had seen. Editor: does it lose a change, apply it twice, or apply it to another element? {GUIDE} says where the calls "
      "go." + stop(7, "replica 1 applies 0.2")),
     ("a wrong response before the one that the program names", 2, "1 ins a 0 : a|1 read :|0 recv 1 1|0 read : a|0 read :|1 read : a",
-     "contents 1.2: this response lacks one element that replica 1 had by then. The first 4 lines show this; the whole trace is `contents 0.2`, as told "
-     "below.||When it went wrong|"
+     "contents 1.2: this response lacks one element that replica 1 should have had by then. This is the verdict on the first 4 lines; the whole trace gets "
+     "`contents 0.2` (see below).||When it went wrong|"
      "line 4 of the trace, 1.2: replica 1 read the list. Up to line 3 the session is accepted; line 4 leads to `contents 1.2`|"
      "the first 4 lines are enough to show it (`head -4`)||The response|line 4 of the trace, 1.2: replica 1 read the list|answered: (nothing)|"
      "[a] inserted by 1.1 (line 3), an earlier operation of replica 1" + stop(4, "replica 1 reads the list")
@@ -379,36 +378,36 @@ WORDS = [
      "strong and weak fail"),
     ("a delete that meets an insert which did not know it", 2, "0 ins a 0 : a|0 ins b 1 : a b|0 ins c 2 : a b c|1 recv 0 3|1 read : a b c|1 del a : b c|"
      "0 ins d 2 : a b d c|1 recv 0 4|1 read : b c d",
-     "Look at where a replica places an incoming insert: 0.4 (line 9) inserted d when its replica had c, so their order was set, yet two "
-     "responses differ. Often the number that orders inserts does not grow when changes arrive, or the neighbour is not found. If the editor "
-     "sends positions, the position of d was perhaps not adjusted for the delete of a by 1.2 (line 8), which replica 1 had and the author of d had not." + stop(10, "replica 1 applies 0.4", 6)),
+     "Look at where a replica places an incoming insert: when 0.4 (line 9) inserted [d], its replica had [c] already, so their order was "
+     "fixed; yet two responses differ about it. Often the clock that decides between inserts does not advance when changes arrive, or the neighbour is not found. If the editor "
+     "sends positions, the position of d was perhaps not adjusted for the delete of a by 1.2 (line 8), which replica 1 knew and the author of d did not." + stop(10, "replica 1 applies 0.4", 6)),
     ("a delete that becomes nothing beside an insert that its author did not know", 2, "0 ins a 0 : a|1 recv 0 1|1 read : a|0 del a :|"
      "1 ins b 0 : b a|1 recv 0 2|1 read : b a",
      "It looks as if 0.2 (line 6) was not applied at replica 1: lost, or held back, or `received` is called before the change is applied. "
      "If the editor sends positions, the position of 0.2 was perhaps not adjusted for the insert of b by 1.2 (line 7), which the author of 0.2 "
      "had not seen."),
     ("a delete of one of two that were inserted at one place", 2, "0 ins a 0 : a|0 del a :|1 ins b 0 : b|1 recv 0 1|1 read : a b|1 recv 0 2|1 read : a",
-     "It looks as if 0.2 (line 4) deleted b instead of a: look at how a delete finds its element where it is applied, and at whether the recorder "
-     "names the element that was deleted. If the editor sends positions, the position of 0.2 was perhaps not adjusted for the insert of b by 1.1 (line 5), which the author of 0.2 had not seen. b was inserted at the same place as a, and neither author had seen the other's insert. Look also at which comes first there."),
+     "It looks as if 0.2 (line 4), applied at replica 1, deleted b instead of a: look at how a replica that applies a delete finds the element, and at whether the recorder "
+     "names the element that was deleted. If the editor sends positions, the position of 0.2 was perhaps not adjusted for the insert of b by 1.1 (line 5), which the author of 0.2 had not seen. b was inserted at the same place as a, and neither author had seen the other's insert. Look also at which of them comes first."),
     ("doubled", 2, "0 ins a 0 : a|0 ins b 1 : a b|1 ins b 0 : b",
      "doubled: 0.2 and 1.1 insert the same name, b. An element is known by its name, so nothing else was judged.|"
      "line 4 of the trace, 0.2: replica 0 inserted b at position 1|line 5, 1.1: replica 1 inserted b at position 0||"
      "Where to look|"
-     "Look at the recorder first: each inserted element needs a name of its own, for ever. Equal letters are different elements, each element "
-     "of a paste is a new one, and so is one that undo brings back, if the editor makes it anew.|"
+     "Look at the recorder first: each inserted element needs a name of its own, for ever. Two equal letters need two names. Each pasted "
+     "element needs a new name; so does one that undo inserts again as a new element.|"
      "If that name is the editor's own id, the editor made it twice: look at what makes ids. Usual causes: a clock that goes back when a change arrives, or "
-     "at a new start; two replicas with one number.||The list specifications|"
+     "at a restart; two replicas with the same number.||The list specifications|"
      "neither the strong nor the weak one was judged: both know an element by its name"),
 ]
 
 # The cycle of three, and by then all has arrived everywhere. With it other entries, and what the first of the words say where weak is enough.
 ALL_ARRIVED = f"{THREE_WAY}|1 recv 0 2|1 recv 2 1|1 read : b a|2 recv 0 2|2 recv 1 1|2 read : b a"
-ALONE = "weak holds, strong doesn't: this passes, as the weak list specification alone is asked for. "
+ALONE = "weak holds, strong doesn't: this passes, since only the weak list specification is asked for. The strong one gets "
 FAILS_WEAK = [
     # Where strong failed before, the session went wrong where weak fails.
     ("opposite orders after the cycle", f"{THREE_WAY}|1 recv 0 2|1 recv 2 1|1 read : a b|2 recv 0 2|2 recv 1 1|2 read : a b", "refused 2: ", [
         "When it went wrong", "line 14 of the trace, 1.2: replica 1 read the list. Up to line 13 weak holds; line 14 leads to `refused 2`",
-        "before it: 1.1 (line 6) agrees with all responses up to then; since then replica 1 received 0.2 (line 12), 2.1 (line 13)",
+        "before it: replica 1's 1.1 (line 6) agrees with all responses up to then; since then it received 0.2 (line 12), 2.1 (line 13)",
         "[a] before [b]: line 14, 1.2: replica 1 read the list, answered [a] [b]",
         "[b] before [a]: line 11, 0.3: replica 0 read the list, answered [b] [a]", "strong and weak fail"]),
     ("a lost element after the cycle", f"{THREE_WAY}|1 recv 0 2|1 recv 2 1|1 read : b|0 read : b", "contents 1.2: ", [
@@ -430,13 +429,13 @@ UNHEARD_OF = [
 ]
 # How many replicas, the entries, and of a delete that seems to have deleted another element what is said first of where to look.
 WRONG_DELETES = [
-    (2, "0 ins a 0 : a|0 ins b 1 : a b|1 recv 0 2|1 read : a b|0 del a : b|1 recv 0 3|1 read : a", "It looks as if 0.3 (line 7) deleted b "
-     "instead of a: "),
-    (2, "0 ins a 0 : a|0 del a :|0 ins b 0 : b|1 recv 0 3|1 read : a", "It looks as if 0.2 (line 4) deleted b instead of a: "),
-    (1, "0 ins a 0 : a|0 ins b 1 : a b|0 del a : a", "It looks as if 0.3 (line 5) deleted b instead of a: "),
-    (2, "0 ins a 0 : a|0 ins b 1 : a b|1 recv 0 2|1 del a : b|0 del a : a", "It looks as if 0.3 (line 7) deleted b instead of a: "),
-    (2, "0 ins a 0 : a|0 ins b 1 : a b|1 recv 0 2|1 read : a b|0 del a : b|1 recv 0 3|1 view :|1 read : a", "It looks as if 0.3 (line 7) deleted "
-     "b instead of a: "),
+    (2, "0 ins a 0 : a|0 ins b 1 : a b|1 recv 0 2|1 read : a b|0 del a : b|1 recv 0 3|1 read : a", "It looks as if 0.3 (line 7), applied at "
+     "replica 1, deleted b instead of a: "),
+    (2, "0 ins a 0 : a|0 del a :|0 ins b 0 : b|1 recv 0 3|1 read : a", "It looks as if 0.2 (line 4), applied at replica 1, deleted b instead of a: "),
+    (1, "0 ins a 0 : a|0 ins b 1 : a b|0 del a : a", "It looks as if 0.3 (line 5), applied at replica 0, deleted b instead of a: "),
+    (2, "0 ins a 0 : a|0 ins b 1 : a b|1 recv 0 2|1 del a : b|0 del a : a", "It looks as if 0.3 (line 7), applied at replica 0, deleted b instead of a: "),
+    (2, "0 ins a 0 : a|0 ins b 1 : a b|1 recv 0 2|1 read : a b|0 del a : b|1 recv 0 3|1 view :|1 read : a", "It looks as if 0.3 (line 7), applied "
+     "at replica 1, deleted b instead of a: "),
     (1, "0 ins a 0 : a|0 ins b 1 : a b|0 del a : b|0 read : a", ""),  # deleted for the response before, which is right
     (2, "0 ins a 0 : a|0 ins b 1 : a b|1 recv 0 2|1 del b : a|0 del a : a", ""),  # the other one is deleted too, elsewhere
     (1, "0 ins a 0 : a|0 ins b 1 : a b|0 ins c 2 : a b c|0 del a : a", ""),
@@ -551,11 +550,10 @@ PLANTED = {
 # By planted bug by which changes are lost: how many seeds, how many sessions fail at least, and of how many of these the words name one.
 LOST_MESSAGES = {"lost": (150, 60, 1.0), "dropped": (150, 80, 0.97)}
 
-NO_INSERT = ", which no line inserts, so no response shows whether it was deleted: is that its name, and was its insert recorded?"
+NO_INSERT = ", which no line inserts, so no response shows whether it was deleted: is {} the right name, and was its insert recorded?"
 UNHEARD = ("no receipt brings it an insert or a delete from there, so nothing shows how it applies these. At the end of a session let "
-           "everyone receive everything, and read")
-IT, THEY = "If nothing was still on its way, it was lost or is held back", "If nothing was still on its way, they were lost or are held back"
-PAST_END = "is that the position that was asked for?"
+           "everyone receive everything, and then read the list")
+IT, THEY = "Unless it was still on its way, it was lost or is held back", "Unless they were still on their way, they were lost or are held back"
 # By name: how many replicas, the entries of an accepted recording, and what is warned of, a line each.
 WARNED = [
     ("nothing recorded", 3, "", "nothing was recorded: the trace has no entry, so the verdict says nothing of an editor"),
@@ -563,31 +561,31 @@ WARNED = [
      "replica 1 has no entry: nothing that it showed is judged"),
     ("a replica with receipts alone", 2, "0 ins a 0 : a|1 recv 0 1",
      "replica 1 has receipts, but no operation: nothing that it showed is judged"),
-    ("a delete of what nothing inserts", 1, "0 ins a 0 : a|0 del A : a|0 del a :", f"line 4, 0.2: replica 0 deleted A{NO_INSERT}"),
+    ("a delete of what nothing inserts", 1, "0 ins a 0 : a|0 del A : a|0 del a :", "line 4, 0.2: replica 0 deleted A" + NO_INSERT.format("A")),
     ("seven of them", 2, "1 read :|" + "|".join(f"0 del a{i} :" for i in range(7)) + "|1 recv 0 7|1 read :",
-     "|".join(f"line {i + 4}, 0.{i + 1}: replica 0 deleted a{i}{NO_INSERT}" for i in range(5))
-     + "|and 2 more deletes of what no line inserts"),
+     "|".join(f"line {i + 4}, 0.{i + 1}: replica 0 deleted a{i}" + NO_INSERT.format(f"a{i}") for i in range(5))
+     + "|and 2 more deletes of elements that no line inserts"),
     ("an insert past the end", 1, "0 ins a 0 : a|0 ins b 2 : a b|0 ins c 2 : a b c|0 ins d 4294967295 : a b c d",
-     f"line 4, 0.2: replica 0 inserted b at position 2, which counts as the end of a list of length 1: {PAST_END}|"
-     f"line 6, 0.4: replica 0 inserted d at position 4294967295, which counts as the end of a list of length 3: {PAST_END}"),
+     f"line 4, 0.2: replica 0 inserted b at position 2, past the end of a list of length 1, so it counts as the end: was position 2 asked for?|"
+     f"line 6, 0.4: replica 0 inserted d at position 4294967295, past the end of a list of length 3, so it counts as the end: was position 4294967295 asked for?"),
     ("two that never hear of one another", 2, "0 ins a 0 : a|1 ins b 0 : b|0 read : a|1 read : b",
      f"in the end replicas 0 and 1 show different lists|replica 0 never hears of replica 1: {UNHEARD}|replica 1 never hears of replica 0: {UNHEARD}"),
     ("one that never hears of three others", 4, "0 ins a 0 : a|1 del a :|1 recv 0 1|2 ins c 0 : c|2 recv 1 1|2 recv 0 1|0 recv 2 1|"
      "0 recv 1 1|1 recv 2 1|3 read :",
-     f"in the end replicas 0, 1, 2 and 3 show different lists (1 and 3 show the same one)|replica 3 never hears of replicas 0, 1 and 2: {UNHEARD}|"
-     f"replica 0 received 2.1 (line 9) and 1.1 (line 10) last, and nothing shows how it applied them: {UNSHOWN}|"
-     f"replica 1 received 0.1 (line 5) and 2.1 (line 11) last, and nothing shows how it applied them: {UNSHOWN}|"
-     f"replica 2 received 1.1 (line 7) and 0.1 (line 8) last, and nothing shows how it applied them: {UNSHOWN}"),
+     f"in the end replicas 0, 1, 2 and 3 do not all show the same list (1 and 3 do)|replica 3 never hears of replicas 0, 1 and 2: {UNHEARD}|"
+     f"replica 0 received 2.1 (line 9) and 1.1 (line 10) last, and shows no list after them: {UNSHOWN}|"
+     f"replica 1 received 0.1 (line 5) and 2.1 (line 11) last, and shows no list after them: {UNSHOWN}|"
+     f"replica 2 received 1.1 (line 7) and 0.1 (line 8) last, and shows no list after them: {UNSHOWN}"),
     ("one that hears of a read alone", 2, "0 read :|1 recv 0 1|1 read :|0 ins a 0 : a",
      f"in the end replicas 0 and 1 show different lists|replica 1 never hears of replica 0: {UNHEARD}"),
     ("all hear by way of a third", 3, "0 ins a 0 : a|2 recv 0 1|2 read : a|1 ins b 0 : b|1 recv 2 1|2 recv 1 1|2 read : b a|0 recv 2 2|"
      "0 read : b a|1 read : b a", ""),
     ("one that hears at the end", 2, "0 ins a 0 : a|1 read :|1 recv 0 1", "in the end replicas 0 and 1 show different lists|"
-     f"replica 1 received 0.1 (line 5) last, and nothing shows how it applied that: {UNSHOWN}"),
+     f"replica 1 received 0.1 (line 5) last, and shows no list after that: {UNSHOWN}"),
     ("one that hears at the end, and shows a part", 2, "0 ins a 0 : a|1 recv 0 1|1 view :",
-     f"replica 1 received 0.1 (line 4) last, and nothing but a view shows how it applied that: {UNSHOWN}"),
+     f"replica 1 received 0.1 (line 4) last, and shows no list but a view after that: {UNSHOWN}"),
     ("a receipt before a view and one behind it", 2, "0 ins a 0 : a|1 read :|1 recv 0 1|1 view : a|0 ins b 0 : b a|1 recv 0 2",
-     "in the end replicas 0 and 1 show different lists|replica 1 received 0.1 (line 5) and 0.2 (line 8) last, and nothing shows how it applied "
+     "in the end replicas 0 and 1 show different lists|replica 1 received 0.1 (line 5) and 0.2 (line 8) last, and shows no list after "
      f"them: {UNSHOWN}"),
     ("a list between a receipt and a view", 2, "0 ins a 0 : a|1 recv 0 1|1 read : a|1 view : a", ""),
     ("one that reads is not heard of", 2, "0 ins a 0 : a|1 recv 0 1|1 read : a", ""),
@@ -603,7 +601,7 @@ WARNED = [
      "in the end replicas 0, 1 and 2 show different lists: 0.2 (line 8), 0.3 (line 9), 0.4 (line 10) and 1 more never arrived at replica 1; "
      f"0.4 (line 10) and 0.5 (line 11) never arrived at replica 2 in this recording. {THEY}"),
     ("one that makes nothing of what came last", 2, "0 ins a 0 : a|1 recv 0 1|1 read : a|0 ins b 1 : a b|0 read : a b|1 recv 0 3",
-     "in the end replicas 0 and 1 show different lists|replica 1 received 0.3 (line 8) last, and nothing shows how it applied that: "
+     "in the end replicas 0 and 1 show different lists|replica 1 received 0.3 (line 8) last, and shows no list after that: "
      f"{UNSHOWN}"),
     ("one that receives what it has", 2, "0 ins a 0 : a|1 recv 0 1|1 read : a|0 read : a|1 recv 0 2|1 recv 0 1", ""),
     ("lists in other orders", 2, "0 ins a 0 : a|0 ins b 1 : a b|1 recv 0 2|1 read : a b", ""),
@@ -647,32 +645,32 @@ PLACES = [
 # A session whose end `delivered` wrote, in lines 9 to 11: replica 1 never applied 0.2 and 0.3, and shows nothing wrong before.
 UNDELIVERED = "0 ins a 0 : a|1 recv 0 1|1 read : a|0 ins b 1 : a b|0 del a : b|0 read : b|0 read : b|1 recv 0 3|1 read : a"
 UNDELIVERED_WORDS = """Missing
-[b] inserted by 0.2 (line 6), arrived at replica 1 in line 10 (1 recv 0 3), which `delivered` wrote
+[b] inserted by 0.2 (line 6), which counts as arrived at replica 1 with 0.3 in line 10 (1 recv 0 3), a line that `delivered` wrote
 [b] no operation deletes it
 
 Extra
-[a] inserted by 0.1 (line 3), arrived at replica 1 in line 4 (1 recv 0 1)
-[a] deleted by 0.3 (line 7), arrived at replica 1 in line 10 (1 recv 0 3), which `delivered` wrote
+[a] inserted by 0.1 (line 3), which arrived at replica 1 in line 4 (1 recv 0 1)
+[a] deleted by 0.3 (line 7), which arrived at replica 1 in line 10 (1 recv 0 3), a line that `delivered` wrote
 
 Where to look
 Only `delivered` (line 10) says that 0.2 (line 6) arrived at replica 1; no response before shows it. It was lost, or is held back for ever; \
 0.3 (line 7), which came later, perhaps waits for it. Look at what keeps changes waiting.
 
 In a debugger
-stop before line 6 of the trace, where replica 0 inserts b, and follow 0.2 to replica 1. In Python, put this where your code begins to apply a change, local or remote: \
+stop before line 6 of the trace, where replica 0 inserts b, and follow 0.2 to replica 1. In Python, put this where your code begins to apply a change, local or remote (the recording has 5 lines then): \
 if recording.lines() == 5: breakpoint()
 
 The list specifications
 """
 STATEMENTS = [
-    ("", "In Python, put this {}: if recording.lines() == 6: breakpoint()"),
-    ("language python\n", "In Python, put this {}: if recording.lines() == 6: breakpoint()"),
-    ("language javascript\n", "In JavaScript, put this {}: if (recording.lines() === 6) debugger"),
-    ("language rust\n", 'In Rust, put this {}: if recording.lines() == 6 {{ eprintln!("here") }}, with a breakpoint on it'),
-    ("language c\n", "In C, put this {}: if (domepeeler_lines(recording) == 6) raise(SIGTRAP);"),
-    ("language emacs-lisp\n", "In Emacs Lisp, put this {}: (when (= (domepeeler-lines recording) 6) (debug))"),
-    ("language cobol\n", "In Python, put this {}: if recording.lines() == 6: breakpoint()"),
-    ("language rust\nlanguage c\n", 'In Rust, put this {}: if recording.lines() == 6 {{ eprintln!("here") }}, with a breakpoint on it'),
+    ("", "In Python, put this {} (the recording has 6 lines then): if recording.lines() == 6: breakpoint()"),
+    ("language python\n", "In Python, put this {} (the recording has 6 lines then): if recording.lines() == 6: breakpoint()"),
+    ("language javascript\n", "In JavaScript, put this {} (the recording has 6 lines then): if (recording.lines() === 6) debugger"),
+    ("language rust\n", 'In Rust, put this {} (the recording has 6 lines then): if recording.lines() == 6 {{ eprintln!("here") }}, with a breakpoint on it'),
+    ("language c\n", "In C, put this {} (the recording has 6 lines then): if (domepeeler_lines(recording) == 6) raise(SIGTRAP);"),
+    ("language emacs-lisp\n", "In Emacs Lisp, put this {} (the recording has 6 lines then): (when (= (domepeeler-lines recording) 6) (debug))"),
+    ("language cobol\n", "In Python, put this {} (the recording has 6 lines then): if recording.lines() == 6: breakpoint()"),
+    ("language rust\nlanguage c\n", 'In Rust, put this {} (the recording has 6 lines then): if recording.lines() == 6 {{ eprintln!("here") }}, with a breakpoint on it'),
 ]
 WHERE = "where your code reads the list"
 # What stands beside a trace, and the section of the user's notes.
@@ -848,7 +846,7 @@ def hidden_of(text: str, report: dict) -> list:
 
 def hidden_told(told: str) -> list:
     """What some lines of an explanation say of that."""
-    return sorted(re.findall(r"^  (\S+) was put ((?:behind|before) .*), which (?:was|were) already deleted at (\d+\.\d+) ", told, re.MULTILINE))
+    return sorted(re.findall(r"^  (\S+) was put ((?:behind|before) .*)\. At (\d+\.\d+) ", told, re.MULTILINE))
 
 
 def beside_told(told: str) -> list:
@@ -897,9 +895,9 @@ def beginning(tally: Tally, program: str, text: str, report: dict, said: str) ->
     steps = [re.findall(r"^  \[(\S+)\] before \[(\S+)\]: ", half, re.MULTILINE) for half in (front, shown) if half]
     tally.check("refused: what it showed then, and the whole trace", steps == wanted, f"{text}{report}\n{said}")
     titles = [line for line in front.splitlines() if line.startswith("What the")]
-    tally.check("refused: under which title", titles == ["What they show: each element before the next, in a circle"], said)
-    others = " too, by other responses" if behind["k"] == report["k"] else ""
-    ending = f" The first {last} lines show this; the whole trace is `refused {report['k']}`{others}, as told below."
+    tally.check("refused: under which title", titles == ["What they show: a circle, which no order allows"], said)
+    others = " too, for other responses" if behind["k"] == report["k"] else ""
+    ending = f" This is the verdict on the first {last} lines; the whole trace gets `refused {report['k']}`{others} (see below)."
     tally.check("refused: the whole trace's number", said.splitlines()[0].endswith(ending) == bool(wanted[1:])
                 and said.startswith(f"refused {behind['k']}: "), said)
     return "".join(lines[:last]), behind
@@ -927,7 +925,7 @@ def sooner(tally: Tally, program: str, text: str, report: dict, said: str) -> tu
     tally.check("a fault: when it went wrong", is_right if wanted else not told, f"{text}{report}\n{said}")
     headline, is_other = said.splitlines()[0], of_whole != of_first
     tally.check("a fault: its headline", headline.startswith(of_first.partition(" ")[0]) and headline.endswith(
-        f" The first {count} lines show this; the whole trace is `{of_whole}`, as told below.") == is_other
+        f" This is the verdict on the first {count} lines; the whole trace gets `{of_whole}` (see below).") == is_other
                 and ("the whole trace" in headline) == is_other, f"{text}{report}\n{said}")
     tally.check("a fault: what the whole trace names", bool(paragraph(said, "What the verdict on the whole trace is about")) == is_other,
                 f"{text}{report}\n{said}")
@@ -1736,7 +1734,7 @@ def pages(tally: Tally, program: str, folder: str) -> None:
         kinds = circles(tree)
         tally.check(f"page of {name}: its circles are red", {row for row, found in kinds.items() if "verdict" in found} == first[name], kinds)
         later = {node.get("id") for node in by_class(tree, "li", "matters")}
-        named = {f"line-{line}" for line in re.findall(r"\bline (\d+), ", wanted.partition("hat the whole trace")[2] or wanted.partition("program names in")[2])}
+        named = {f"line-{line}" for line in re.findall(r"\bline (\d+), ", wanted.partition("hat the whole trace")[2] or wanted.partition("What the verdict on the whole trace is about")[2])}
         tally.check(f"page of {name}: what the whole trace names is marked", named and named <= later | red, (named, later))
         ways = {row for row, found in kinds.items() if found == {"matters"}}
         tally.check(f"page of {name}: its other circles", ways == (later - red) & set(kinds) and named <= ways | red, (ways, later))
@@ -1833,7 +1831,7 @@ def many_deletes(tally: Tally, program: str, folder: str) -> None:
     deletes, receipts = "|1 del a :" * count, [f"|0 recv 1 {n}" for n in range(1, count + 3)]
     for name, entries, said, lines in (
             ("one is lost", f"1 ins a 0 : a|1 ins b 1 : a b{deletes.replace(':', ': b')}{''.join(receipts[:2])}|0 read : a b{''.join(receipts[2:])}|0 read :",
-             "contents 0.2: this response lacks one element that replica 0 had by then.", 12),
+             "contents 0.2: this response lacks one element that replica 0 should have had by then.", 12),
             ("one is shown again", f"1 ins a 0 : a{deletes}{receipts[0]}|0 read : a{''.join(receipts[1:-1])}|0 read : a",
              "contents 0.2: this response has one element that should not be there.", 8)):
         trace.write_text(text_of(2, entries))
@@ -1966,8 +1964,9 @@ def weak(tally: Tally, program: str, folder: str) -> None:
     """Where weak is enough: what is said first, the status, what is warned of, and where a session went wrong that fails. All else stays."""
     trace = text_of(3, ALL_ARRIVED).encode()
     without, got = (explain(program, [*goal, "-"], trace) for goal in ([], ["--weak"]))
-    tally.same("weak: it passes, and the explanation follows", got, Ended(0, ALONE.encode() + without.out.replace(
-        b"When it went wrong", b"When strong came to fail"), b""))
+    asks, rest = re.subn(rb"  An editor whose server orders .* use --weak\.\n", b"", without.out)[::-1]
+    tally.same("weak: it passes, and the explanation follows, but for how to ask for it", (asks, got), (1, Ended(0, ALONE.encode() + rest.replace(
+        b"When it went wrong", b"When strong came to fail"), b"")))
     tally.check("weak: not asked for", without.status == 1 and without.out.startswith(b"refused 3: "), without)
     got = explain(program, ["--weak", "-"], text_of(3, THREE_WAY).encode())
     lines = got.out.decode().split("\n")
@@ -2007,7 +2006,7 @@ def weak_files(tally: Tally, program: str, folder: str) -> None:
     tally.check("weak: the picture", Path(folder, "weak.svg").is_file(), got)
     page = Path(folder, "weak.html").read_text()
     tally.check("weak: the page", '<body class="accepted">' in page and
-                '<h1><span class="kind">weak holds, strong doesn&#x27;t</span>: this passes, as ' in page and
+                '<h1><span class="kind">weak holds, strong doesn&#x27;t</span>: this passes, since ' in page and
                 "<h2>The cycle of the lines up to 13</h2>" in page, page.partition("<body")[2][:1000])
     for name, entries, begins, _ in FAILS_WEAK[:3]:
         got = explain(program, ["--weak", "--small", f"{folder}/weak_small.trace", "-"], text_of(3, entries).encode())

@@ -28,7 +28,7 @@ PROPTEST = "librust-proptest+std-dev"
 # A replica received an element, and then answers that it has none. Its explanation begins with the first of these lines.
 LOST = "contents 1.1: "
 LOST_TRACE = "trace 1\nreplicas 2\n0 ins a 0 : a\n1 recv 0 1\n1 read :\n"
-TOLD = [LOST, "[a] inserted by 0.1 (line 3), arrived at replica 1 in line 4 (1 recv 0 1)"]
+TOLD = [LOST, "[a] inserted by 0.1 (line 3), which arrived at replica 1 in line 4 (1 recv 0 1)"]
 BUILT = {"__pycache__", "build", "domepeeler.egg-info", "node_modules", "target", "Cargo.lock"}  # what a user's own use may leave there
 DICTIONARY = ["'verdict'", '"verdict"', "Traceback"]
 
@@ -556,7 +556,7 @@ ALONE = "weak holds, strong doesn't: this passes"
 # What an accepted recording of one replica's insert and another's read may hide.
 UNSURE = ["in the end replicas 0 and 1 show different lists",
           "replica 1 never hears of replica 0: no receipt brings it an insert or a delete from there, so nothing shows how it applies "
-          "these. At the end of a session let everyone receive everything, and read"]
+          "these. At the end of a session let everyone receive everything, and then read the list"]
 NOTHING = "nothing was recorded: the trace has no entry, so the verdict says nothing of an editor"
 
 # Programs that give no report, and what is said of each.

@@ -1349,7 +1349,7 @@ def check_long_updates(tally: Tally, recorder: Recorder) -> None:
     got = recorder.answers([fields(call) for call in calls])
     took = processor_seconds() - started
     tally.check(f"{recorder.language}: an update of {count} changes", got[count + 1:count + 2] == ["ok"] and got[-2:] ==
-                [f"| and {count - 5} more deletes of what no line inserts", "ok"] and took < MOST_SECONDS, (took, got[count:]))
+                [f"| and {count - 5} more deletes of elements that no line inserts", "ok"] and took < MOST_SECONDS, (took, got[count:]))
     if recorder.language not in WITH_IDS:
         return
     calls = ["new 2", *[f"as i{n} delete 0 a" for n in range(2000)], *["received_changes 1 " + " ".join(f"i{n}" for n in range(2000))] * 300,
@@ -1385,12 +1385,12 @@ def check_many_lines(tally: Tally, recorder: Recorder) -> None:
 
 NOTHING = "nothing was recorded: the trace has no entry, so the verdict says nothing of an editor"
 NEVER_HEARS = ("replica {} never hears of {}: no receipt brings it an insert or a delete from there, so nothing shows how it applies these. "
-               "At the end of a session let everyone receive everything, and read")
-LOST_ONE = "If nothing was still on its way, it was lost or is held back"
-LOST_SOME = "If nothing was still on its way, they were lost or are held back"
-OF_NOTHING = ("line {0}, 0.{1}: replica 0 deleted {2}, which no line inserts, so no response shows whether it was deleted: is that its "
-              "name, and was its insert recorded?")
-PAST_END = "line {0}, 0.{1}: replica 0 inserted {2} at position {3}, which counts as the end of a list of length {4}: is that the position that was asked for?"
+               "At the end of a session let everyone receive everything, and then read the list")
+LOST_ONE = "Unless it was still on its way, it was lost or is held back"
+LOST_SOME = "Unless they were still on their way, they were lost or are held back"
+OF_NOTHING = ("line {0}, 0.{1}: replica 0 deleted {2}, which no line inserts, so no response shows whether it was deleted: is {2} the "
+              "right name, and was its insert recorded?")
+PAST_END = "line {0}, 0.{1}: replica 0 inserted {2} at position {3}, past the end of a list of length {4}, so it counts as the end: was position {3} asked for?"
 
 # Calls of accepted recordings, and what the verdict on each may hide.
 WARNED = [
@@ -1405,7 +1405,7 @@ WARNED = [
      [f"in this recording 0.2 (line 5), 0.3 (line 6), 0.4 (line 7) and 1 more never arrived at replica 1. {LOST_SOME}"]),
     ("three replicas, two alike", ["new 3", "insert 1 a 0 a", "received 0 1 1", "received 2 1 1", "read 0 a", "insert 1 b 1 a b",
                                    "read 2 a"],
-     ["in the end replicas 0, 1 and 2 show different lists (0 and 2 show the same one): 1.2 (line 7) never arrived at replicas 0 and 2 in "
+     ["in the end replicas 0, 1 and 2 do not all show the same list (0 and 2 do): 1.2 (line 7) never arrived at replicas 0 and 2 in "
       f"this recording. {LOST_ONE}"]),
     ("one that both deleted", ["new 2", "insert 0 a 0 a", "received 1 0 1", "delete 0 a", "delete 1 a", "received 0 1 1", "read 0",
                                "read 1"],
@@ -1414,26 +1414,26 @@ WARNED = [
      ["in the end replicas 0 and 1 show different lists", NEVER_HEARS.format(0, "replica 1")]),
     ("replicas that it never hears of", ["new 3", "insert 0 a 0 a", "insert 1 b 0 b", "read 2", "received 0 1 1", "received 1 0 1",
                                          "read 0 b a", "read 1 b a"],
-     ["in the end replicas 0, 1 and 2 show different lists (0 and 1 show the same one)", NEVER_HEARS.format(2, "replicas 0 and 1")]),
+     ["in the end replicas 0, 1 and 2 do not all show the same list (0 and 1 do)", NEVER_HEARS.format(2, "replicas 0 and 1")]),
     ("no list at the end", ["new 2", "insert 0 a 0 a", "insert 1 b 0 b", "received 0 1 1", "read 0 b a", "received 1 0 1", "view 1 a"],
      ["in the end replicas 0 and 1 show different lists",
-      "replica 1 received 0.1 (line 7) last, and nothing but a view shows how it applied that: let each replica read at the end"]),
+      "replica 1 received 0.1 (line 7) last, and shows no list but a view after that: let each replica read at the end"]),
     ("a list, and then a view", ["new 2", "insert 0 a 0 a", "received 1 0 1", "read 1 a", "view 1 a"], []),
     ("a view between two receipts", ["new 2", "insert 0 a 0 a", "read 1", "received 1 0 1", "view 1 a", "insert 0 b 0 b a", "received 1 0 2"],
      ["in the end replicas 0 and 1 show different lists",
-      "replica 1 received 0.1 (line 5) and 0.2 (line 8) last, and nothing shows how it applied them: let each replica read at the end"]),
+      "replica 1 received 0.1 (line 5) and 0.2 (line 8) last, and shows no list after them: let each replica read at the end"]),
     ("nothing shown of what came last", ["new 2", "insert 0 a 0 a", "read 1", "received 1 0 1", "received 1 0 1"],
      ["in the end replicas 0 and 1 show different lists",
-      "replica 1 received 0.1 (line 5) last, and nothing shows how it applied that: let each replica read at the end"]),
+      "replica 1 received 0.1 (line 5) last, and shows no list after that: let each replica read at the end"]),
     ("nothing shown of several", ["new 2", "insert 0 a 0 a", "insert 0 b 0 b a", "insert 0 c 0 c b a", "insert 0 d 0 d c b a",
                                   "insert 0 e 0 e d c b a", "view 1", *(f"received 1 0 {n}" for n in range(1, 6))],
-     ["replica 1 received 0.1 (line 9), 0.2 (line 10), 0.3 (line 11) and 2 more last, and nothing shows how it applied them: let each "
+     ["replica 1 received 0.1 (line 9), 0.2 (line 10), 0.3 (line 11) and 2 more last, and shows no list after them: let each "
       "replica read at the end"]),
     ("receipts alone, and no entry", ["new 3", "insert 0 a 0 a", "received 1 0 1"],
      ["replica 1 has receipts, but no operation: nothing that it showed is judged",
       "replica 2 has no entry: nothing that it showed is judged"]),
     ("deletes of what nothing inserts", ["new 1", *(f"delete 0 {one}" for one in "uvwxyz")],
-     [*(OF_NOTHING.format(n + 2, n, one) for n, one in enumerate("uvwxy", 1)), "and 1 more delete of what no line inserts"]),
+     [*(OF_NOTHING.format(n + 2, n, one) for n, one in enumerate("uvwxy", 1)), "and 1 more delete of elements that no line inserts"]),
     ("positions past the end", ["new 1", "insert 0 a 5 a", "insert 0 b 1 a b", *(f"insert 0 {one} 9 {'a b c d e f g'[:2 * at + 5]}"
                                                                              for at, one in enumerate("cdefg"))],
      [PAST_END.format(3, 1, "a", 5, 0), *(PAST_END.format(n + 2, n, one, 9, n - 1) for n, one in enumerate("cdef", 3)),
@@ -1582,7 +1582,7 @@ def check_explains_file(tally: Tally, recorder: Recorder, folder: Path) -> None:
     said = [line[2:] for line in got[len(lost) + 1:-1]]
     tally.check(f"{recorder.language}: explains a file of a session that ends with delivered", told.returncode == 1 and
                 said == told.stdout.splitlines() and "says that 0.1 (line 3) arrived at replica 1; no response before shows it." in told.stdout and
-                "arrived at replica 1 in line 5 (1 recv 0 1), which `delivered` wrote" in told.stdout, (said, told))
+                "arrived at replica 1 in line 5 (1 recv 0 1), a line that `delivered` wrote" in told.stdout, (said, told))
 
 
 def check_judge(tally: Tally, recorder: Recorder, folder: Path) -> None:
@@ -2622,7 +2622,7 @@ fn main() {{
     done = subprocess.run([place / "placed"], cwd=folder, env=surroundings, capture_output=True, text=True)
     tally.check("Rust: places with signs that JSON escapes", json.loads(done.stdout)["warnings"] == [
         "in the end replicas 0 and 1 show different lists",
-        'replica 1 received 0.1 (line 5, a "user\'s" \\tests/placed.rs:7) last, and nothing shows how it applied that: let each replica '
+        'replica 1 received 0.1 (line 5, a "user\'s" \\tests/placed.rs:7) last, and shows no list after that: let each replica '
         "read at the end"], done)
 
 
@@ -2891,7 +2891,7 @@ def check_places_c(tally: Tally, program: str, folder: Path) -> None:
         **os.environ, "DOMEPEELER": program, "DOMEPEELER_EXPLAIN": EXPLAIN, "LC_ALL": "C.UTF-8"})
     beside = Path(folder, "places.trace.lines").read_text() if done.returncode == 0 else done
     tally.check("C: a place for each line of which it is known", beside ==
-                "8\nlanguage c\n3 editor.y:7\n6 a??\u00e4 b.c:12\n7 other.y:20\n8 other.y:20\n", beside)
+                f"8\nlanguage c\nrefused 2 {CALLS_REFUSED}{NO_NAME}\n3 editor.y:7\n6 a??\u00e4 b.c:12\n7 other.y:20\n8 other.y:20\n", beside)
     tally.check("C: explain names these", done.stdout.endswith(
         f"\n\nIn your code\n  line 3: editor.y:7\n  lines 7 and 8: other.y:20\n{FAIL_BOTH}\n"), done)
 
@@ -3051,7 +3051,8 @@ def check_shared_recordings(tally: Tally, program: str, folder: Path) -> None:
         subprocess.run([*compiler, source], cwd=folder, check=True)
         done = subprocess.run(["./threads"], cwd=folder, env=os.environ | {"DOMEPEELER": program}, capture_output=True, text=True)
         entries = Path(folder, "threads.trace").read_text().splitlines()[2:] if done.returncode == 0 else []
-        places = [line.split(" ", 1)[1] for line in Path(folder, "threads.trace.lines").read_text().splitlines()[2:]] if entries else []
+        beside = Path(folder, "threads.trace.lines").read_text().splitlines()[2:] if entries else []
+        places = [line.split(" ", 1)[1] for line in beside if not line.startswith("refused ")]
         wanted = {(f"{replica} {shown}", f"{source}:{line}") for replicas, shown, line in (("02", "view : even", view), ("13", "read : odd", read))
                   for replica in replicas}
         counts = Counter(zip(entries, places))
@@ -3367,7 +3368,7 @@ def check_hostile_c(tally: Tally, recorder: Recorder, folder: Path) -> None:
     tally.check("C: the front of a long id is shown", len(got) == len("refused ") + 511 and
                 got.startswith("refused one replica's log can't give the id \"" + "\\x1b" * 100), got)
     teller = folder / "teller"
-    teller.write_text("#!/bin/sh\ncat > /dev/null\necho told\n")
+    teller.write_text("#!/bin/sh\ncat > /dev/null\nprintf '%s\\n' \"asked: $*\"\n")
     teller.chmod(0o755)
     for name, script, verdict, wanted in REFUSED_C:
         calls = b"".join(bytes_of(call) + b"\n" for call in [*script, "weak", "judge", "warnings", "explain"])
@@ -3375,11 +3376,11 @@ def check_hostile_c(tally: Tally, recorder: Recorder, folder: Path) -> None:
         got = done.stdout.decode(errors="replace").splitlines()
         report = next((json.loads(line[7:]) for line in got if line.startswith("report {")), {"verdict": got})
         first = [wanted] if wanted else []
-        told = [f"| {line}" for line in first]
         tally.check(f"C: where weak is enough refused calls are told of, {name}", not wanted or f"fails {wanted}" in got, got[-8:])
         tally.check(f"C: judge tells of refused calls, {name}", report["verdict"] == verdict and
                     [line for line in report["warnings"] if "refused" in line] == report["warnings"][:1] * bool(wanted) == first, report)
-        tally.check(f"C: explain tells of refused calls, {name}", got[-len(told) - len(first) - 2:] == [*told, *["| "] * len(first), "| told", "ok"],
+        told = got[-2].partition(" --refused ")[1:] if got[-1:] == ["ok"] else got
+        tally.check(f"C: explain tells of refused calls, {name}", told == ((" --refused ", f"{wanted} -") if wanted else ("", "")),
                     got[-5:])
 
 

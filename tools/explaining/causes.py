@@ -15,8 +15,8 @@ ALONE = "weak alone"  # the name of the last cause: that weak holds
 MOST_TOLD = 3  # deletes, or elements, that are told one by one
 MOST_MET = 6  # changes for which a position was perhaps not adjusted
 
-ARRIVAL = ("Look in this order. Recorder: `received` must be called right after the change is applied. Transport: no change may arrive before those "
-           "that its author had seen. Editor: does it lose a change, apply it twice, or apply it to another element? "
+ARRIVAL = ("Check three things, one after the other. Recorder: `received` must be called right after the change is applied. Transport: a change must "
+           "arrive after all those that its author had seen. Editor: does it lose a change, apply it twice, or apply it to another element? "
            f"{GUIDE} says where the calls go.")
 APPLIED_TWICE = ("It looks as if {changes} {were} applied twice at replica {replica}: look at what the editor does with a change that arrives a second "
                  "time{back}, and at whether one that waits is applied when it arrives as well.")
@@ -36,39 +36,39 @@ OTHERS_HAVE = "all other changes of replica {author} have one"
 ELSEWHERE_ONE = {True: "at another replica it has one", False: "at other replicas they have some"}
 NO_RECEIPT = ("It looks as if {changes} {were} applied at replica {replica} without a receipt: the call of `received` is missing, comes "
               "too late, or names another operation.")
-WRONG_DELETE = ("It looks as if {delete} deleted {missing} instead of {surplus}: look at how a delete finds its element where it is "
-                "applied, and at whether the recorder names the element that was deleted.{moved}")
+WRONG_DELETE = ("It looks as if {delete}, applied at replica {replica}, deleted {missing} instead of {surplus}: look at how a replica that applies a "
+                "delete finds the element, and at whether the recorder names the element that was deleted.{moved}")
 MOVED_DELETE = (" If the editor sends positions, the position of {delete} was perhaps not adjusted for {changes}, which the author of {delete} had "
                 "not seen{back}.{tie}")
 MOVED_BEFORE = "; or an earlier insert was not adjusted for another delete"
 PUT_AT_ONCE = (" {others} {were} inserted at the same place as {element}, and neither author had seen the other's insert. Look also at which "
-               "comes first there.")
+               "of them comes first.")
 SECOND_DELETE = ("{again} deletes {element}, already deleted at replica {replica} by {first}: look at what the editor does with a delete whose element "
-                 "is gone. It may have deleted {missing} instead.{moved}")
-CAUSAL = ("Apply an operation only after everything that its author had seen, or send that with it. If the editor itself holds operations back, write "
-          f"the receipt of each only when it is applied. {GUIDE} has both ways.")
+                 "is gone. The editor may have deleted {missing} instead.{moved}")
+CAUSAL = ("Apply an operation only after everything that its author had seen, or send all of that together with it. If the editor itself holds operations "
+          f"back, write the receipt of each only when it is applied. {GUIDE} shows how to record either.")
 OVERTAKEN = "Look at the order in which operations arrive: {name} was overtaken, as told above. " + CAUSAL
-LOST_OR_OVERTAKEN = ("Look first at whether {name} was lost on its way to replica {replica}: no receipt there names it. If it was overtaken, look "
-                     "at the order in which operations arrive. ") + CAUSAL
-LOST_NEIGHBOUR = ("Look at inserts beside deleted elements, if inserts find their place by a neighbour: when {element} arrived, its neighbour was "
+LOST_OR_OVERTAKEN = ("Look first at whether {name} was lost on its way to replica {replica}: no receipt there names it. If it was not lost but overtaken, "
+                     "look at the order in which operations arrive. ") + CAUSAL
+LOST_NEIGHBOUR = ("If inserts find their place by a neighbour, look at inserts beside deleted elements: when {element} arrived, its neighbour was "
                   "already deleted there, as told above. An editor that throws deleted elements away too early finds no place for it, and loses it or "
                   "holds it back for ever.")
-NUMBERS_OF_INSERTS = " Often the number that orders inserts does not grow when changes arrive, or the neighbour is not found."
-IDENTIFIERS = ("If the list is sorted by position identifiers, print those of {names} at line {line}: if they are not in this order, look at how that of "
-               "{element} is made there; else at how they are compared (numbers not as text).")
+NUMBERS_OF_INSERTS = " Often the clock that decides between inserts does not advance when changes arrive, or the neighbour is not found."
+IDENTIFIERS = ("If the list is sorted by position identifiers, print those of {names} at line {line}. If they do not rise in this order, look at how the "
+               "one of {element} was made; if they do, at how identifiers are compared (numbers must not be compared as text).")
 SORTED = ("If the list is sorted by position identifiers, look at those of {names}: are two equal, does one differ between "
           "replicas, or are numbers compared as text?")
 MAPPING = ("Look at how the position that a user sees is mapped to a place in the editor's own list{deleted}; and at whether the "
            "recorder writes the position that was asked for.")
-NUMBERS = ("Look at the numbers that order inserts at one place, if the editor has such (a clock, ids): {element} stands behind "
+NUMBERS = ("If the editor decides by numbers (a clock, ids) which of two inserts at one place comes first, look at these: {element} stands behind "
            "{passed}, which replica {replica} had already. The number that {element} has must be greater than {theirs}; perhaps it is not. Usual causes: "
-           "the clock does not advance when changes arrive; the replica is compared before the number; ids are compared as text, so 10 comes before 9.")
-BESIDE_DELETED = ("Look at inserts beside deleted elements, if inserts find their place by a neighbour and replicas throw deleted elements away: the "
+           "the clock does not advance when changes arrive; replicas are compared before clocks; ids are compared as text, so 10 comes before 9.")
+BESIDE_DELETED = ("If inserts find their place by a neighbour and replicas throw deleted elements away, look at inserts beside deleted elements: the "
                   "lines above name {which}. Without that neighbour nothing says where the insert belongs.")
 SEVERAL_DELETED = ("Look at positions beside deleted elements: any {fewer} of {named} fit together, but perhaps an insert lost its place "
                    "because its neighbour was deleted elsewhere. The lines above say which elements each response no longer has.")
-SEVERAL_APART = ("Look at how a replica orders elements when it has only some of them: any {fewer} of {named} fit together. What "
-                 "each response leaves out was not deleted by then, so its replica had not received it yet. Often the rule that orders concurrent "
+SEVERAL_APART = ("Look at how a replica orders elements when it has only some of them: any {fewer} of {named} fit together. An "
+                 "element that such a response lacks was not deleted by then: it had not arrived at that replica yet. Often the rule that orders concurrent "
                  "inserts is not the same everywhere.")
 WEAK_ALONE_HOLDS = ("An editor whose server orders all changes, as Jupiter's does, promises only the weak list specification, and up to line {line} "
                     "that holds. To ask for that only, use --weak.")
@@ -76,21 +76,21 @@ CONCURRENT = ("Look at the order of concurrent inserts: {first} and {then} were 
               "in two different orders. Use a rule that gives the same order everywhere (such as the replicas' numbers), and not the order of "
               "arrival.{moved}")
 POSITIONS = ("Look at how a position is adjusted where a change arrives: the position of {element} was perhaps not adjusted for {changes}, which "
-             "replica {replica} had and the author of {element} had not{back}. Or look at the order of concurrent inserts: {first} and {then} were inserted without knowing of each "
+             "replica {replica} knew and the author of {element} did not{back}. Or look at the order of concurrent inserts: {first} and {then} were inserted without knowing of each "
              "other, and were shown in two different orders. Use a rule that gives the same order everywhere (such as the replicas' numbers).")
 EITHER = ("Look at the order of concurrent inserts: {first} and {then} were inserted at one place without knowing of each other, and were shown in two "
           "different orders. Either the rule that orders them is not the same everywhere; or the position of {element} was not adjusted for {changes}, "
-          "which replica {replica} had and the author of {element} had not{back}.")
-SEEN = ("Look at where a replica places an incoming insert: {later} inserted {new} when its replica had {old}, so their order was set, yet two "
-        "responses differ.{numbers}{moved}")
+          "which replica {replica} knew and the author of {element} did not{back}.")
+SEEN = ("Look at where a replica places an incoming insert: when {later} inserted [{new}], its replica had [{old}] already, so their order was fixed; "
+        "yet two responses differ about it.{numbers}{moved}")
 MOVED_INSERT = (" If the editor sends positions, the position of {element} was perhaps not adjusted for {changes}, which replica {replica} "
-                "had and the author of {element} had not{back}.")
+                "knew and the author of {element} did not{back}.")
 MOVED_BACK = {True: "; or the position of the delete was not adjusted for another insert",
               False: "; or the positions of the deletes were not adjusted for other inserts"}
-DOUBLED = ("Look at the recorder first: each inserted element needs a name of its own, for ever. Equal letters are different elements, "
-           "each element of a paste is a new one, and so is one that undo brings back, if the editor makes it anew.")
+DOUBLED = ("Look at the recorder first: each inserted element needs a name of its own, for ever. Two equal letters need two names. Each pasted "
+           "element needs a new name; so does one that undo inserts again as a new element.")
 SAME_ID = ("If that name is the editor's own id, the editor made it twice: look at what makes ids. Usual causes: a clock that goes back when a change arrives, "
-           "or at a new start; two replicas with one number.")
+           "or at a restart; two replicas with the same number.")
 
 
 class Cause(NamedTuple):
@@ -233,7 +233,7 @@ def wrong_delete(evidence: Evidence, operation: Operation) -> list:
     if is_deleted or not news or is_new or not any(map(operation.has_seen, inserts)):
         return []
     moved = moved_delete(evidence, news[0])
-    return [Cause("wrong delete", WRONG_DELETE.format(delete=at(news[0]), missing=missing, surplus=surplus, moved=moved))]
+    return [Cause("wrong delete", WRONG_DELETE.format(delete=at(news[0]), replica=operation.replica, missing=missing, surplus=surplus, moved=moved))]
 
 
 def second_delete(evidence: Evidence) -> list:
@@ -267,7 +267,7 @@ def of_position(evidence: Evidence) -> list:
     passed = response[asked:response.index(name)]
     theirs = "theirs" if passed[1:] else f"that of {passed[0]}"
     return [Cause("numbers", NUMBERS.format(element=name, passed=listed(passed, MOST_TOLD), replica=operation.replica, theirs=theirs)),
-            *sorted_by, Cause("mapping", otherwise("If the editor has no such numbers", mapped))]
+            *sorted_by, Cause("mapping", otherwise("If neither fits your editor" if sorted_by else "If that does not fit your editor", mapped))]
 
 
 def identifiers(insert: Operation, before: list, behind: list) -> list:

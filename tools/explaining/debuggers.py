@@ -56,7 +56,7 @@ def statement(entry: Operation | Receipt, language: str) -> str:
     """How to stop before this entry, in the recorder's language."""
     name, words = LANGUAGES.get(language) or LANGUAGES[USUAL]
     is_read = isinstance(entry, Operation) and entry.kind in ("read", "view")
-    return f" In {name}, put this {READS if is_read else BEGINS}: {words.format(entry.line - 1)}"
+    return f" In {name}, put this {READS if is_read else BEGINS} (the recording has {entry.line - 1} lines then): {words.format(entry.line - 1)}"
 
 
 def doing(entry: Operation | Receipt) -> str:

@@ -108,12 +108,12 @@ def hidden(trace: bytes) -> tuple:
             before = words[4].count(b" ") - 1  # names in the list before it
             if int(words[3]) > before:
                 past_end.append(f"line {line}, {replica}.{n}: replica {replica} inserted {words[2].decode()} at position "
-                                f"{words[3].decode()}, which counts as the end of a list of length {before}: is that the position that was asked for?")
+                                f"{words[3].decode()}, past the end of a list of length {before}, so it counts as the end: was position {words[3].decode()} asked for?")
         elif kind == b"del":
             deletes.append((words[2], f"line {line}, {replica}.{n}: replica {replica} deleted {words[2].decode()}, which no line inserts, "
-                            "so no response shows whether it was deleted: is that its name, and was its insert recorded?"))
+                            f"so no response shows whether it was deleted: is {words[2].decode()} the right name, and was its insert recorded?"))
     of_nothing = [told for name, told in deletes if name not in inserted]
-    others = [*some(of_nothing, "delete", "of what no line inserts"), *some(past_end, "insert", "past the end of a list")]
+    others = [*some(of_nothing, "delete", "of elements that no line inserts"), *some(past_end, "insert", "past the end of a list")]
     ends, silent = [*different(replicas), *unheard(replicas), *unshown(replicas)], without_operation(replicas)
     if any(one.changes for one in replicas):  # of which a silent replica shows nothing
         return [*ends, *silent], others
@@ -144,13 +144,13 @@ def different(replicas: list) -> list:
             alike.setdefault(listed(first, count), []).append(replica)
     never = [f"{told} never arrived at replica{'' if len(where) == 1 else 's'} {joined(where)}" for told, where in alike.items()]
     lacking_told, is_one = "; ".join(never), len(alike) == 1 and all(count < 2 for _, _, count in lacking)
-    lost = "it was lost or is held back" if is_one else "they were lost or are held back"
+    lost = "Unless it was still on its way, it was lost or is held back" if is_one else "Unless they were still on their way, they were lost or are held back"
     if len(lists) < 2:
-        return [f"in this recording {lacking_told}. If nothing was still on its way, {lost}"] if never else []
-    differ = f"in the end replicas {joined(sorted(replica for same in lists.values() for replica in same))} show different lists"
-    same = [f"{joined(one)} show the same one" for one in lists.values() if len(one) > 1]
-    told = differ + (f" ({joined(same)})" if same else "")
-    return [f"{told}: {lacking_told} in this recording. If nothing was still on its way, {lost}" if never else told]
+        return [f"in this recording {lacking_told}. {lost}"] if never else []
+    among = joined(sorted(replica for same in lists.values() for replica in same))
+    same = [f"{joined(one)} do" for one in lists.values() if len(one) > 1]
+    told = f"in the end replicas {among} " + (f"do not all show the same list ({'; '.join(same)})" if same else "show different lists")
+    return [f"{told}: {lacking_told} in this recording. {lost}" if never else told]
 
 
 def lacked(replicas: list, replica: int) -> tuple:
@@ -176,7 +176,7 @@ def unheard(replicas: list) -> list:
         if one.pasts and others:
             told.append(f"replica {replica} never hears of replica{'' if len(others) == 1 else 's'} {joined(others)}: no receipt brings it "
                         "an insert or a delete from there, so nothing shows how it applies these. At the end of a session let everyone "
-                        "receive everything, and read")
+                        "receive everything, and then read the list")
     return told
 
 
@@ -193,7 +193,7 @@ def unshown(replicas: list) -> list:
             has = after
         if one.pasts and news:
             but = " but a view" if one.is_viewed else ""
-            told.append(f"replica {replica} received {listed(news[:MOST_CHANGES], len(news))} last, and nothing{but} shows how it applied "
+            told.append(f"replica {replica} received {listed(news[:MOST_CHANGES], len(news))} last, and shows no list{but} after "
                         f"{'that' if len(news) == 1 else 'them'}: let each replica read at the end")
     return told
 

@@ -7,7 +7,7 @@ import re
 from typing import NamedTuple
 
 from . import debuggers
-from .causes import ALONE, Cause, causes_of
+from .causes import ALONE, Cause, causes_of, otherwise
 from .evidence import MOST_ARRIVED, Evidence
 from .programs import WEAK_ALONE, is_weak_alone
 from .recordings import Operation, Receipt, Recording, place_asked
@@ -16,7 +16,7 @@ from .telling import FIRST_STEPS, at, counted, did, joined
 CODE, LOG, NOTED = "In your code", "In your log", "Noted"  # titles: places of code or of a log; the user's words
 HIDDEN = "What this verdict may hide"  # the title of the section of warnings, the first one
 MOST_NAMES = 24  # of a list that is shown whole
-AROUND = "each element before the next, in a circle"
+AROUND = "a circle, which no order allows"
 LINE = re.compile(r"\bline (\d+)(?=[,):]| of the trace,| \(\d+ recv )")  # of the trace, in words; and not two names, `line` and a number
 
 
@@ -37,15 +37,15 @@ def explanation(evidence: Evidence, told: Evidence, language: str = debuggers.US
     tell = {"accepted": accepted, "refused": refused, "doubled": doubled, "contents": contents, "position": position}
     headline, sections = tell[told.report["verdict"]](told)
     causes = causes_of(told, weak)
-    alone = [cause for cause in causes if cause.name == ALONE]
+    alone = [cause for cause in causes if cause.name == ALONE and not weak and is_weak_alone(evidence.report)]
     in_order = [*(cause for cause in causes if cause.name != ALONE), *of_whole(evidence, told), *alone]
     where = [Section("Where to look", [cause.told for cause in in_order])] if causes else []
     whole = whole_trace(evidence, told)
     if whole:
-        others = " too, by other responses" if verdict_of(evidence.report) == verdict_of(told.report) else ""
-        headline += f" The first {told.last_line} lines show this; the whole trace is {verdict_of(evidence.report)}{others}, as told below."
+        others = " too, for other responses" if verdict_of(evidence.report) == verdict_of(told.report) else ""
+        headline += f" This is the verdict on the first {told.last_line} lines; the whole trace gets {verdict_of(evidence.report)}{others} (see below)."
     if weak and is_weak_alone(evidence.report):
-        headline = f"{WEAK_ALONE}: this passes, as the weak list specification alone is asked for. {headline}"
+        headline = f"{WEAK_ALONE}: this passes, since only the weak list specification is asked for. The strong one gets {headline}"
     return Explanation(headline, [*when_it_went_wrong(evidence, told, weak), *without_receipts(told), *sections, *where,
                                   *in_a_debugger(told, language), *whole, specifications(evidence.report)],
                        tuple(cause.name for cause in causes))
@@ -56,7 +56,7 @@ def of_whole(evidence: Evidence, told: Evidence) -> list:
     contradiction shows more."""
     if not evidence.report.get("k") == 2 < told.report.get("k", 0):
         return []
-    return [Cause(cause.name, f"Of the whole trace: {cause.told}") for cause in causes_of(evidence)]
+    return [Cause(cause.name, otherwise("For the whole trace", cause.told)) for cause in causes_of(evidence)]
 
 
 def specifications(report: dict) -> Section:
@@ -90,7 +90,7 @@ def when_it_went_wrong(evidence: Evidence, told: Evidence, weak: bool) -> list:
     before = "weak holds" if weak and not is_alone else "the session is accepted"
     lines = [f"{did(entry, is_first=True)}. Up to line {last - 1} {before}; line {last} leads to {verdict}"]
     if told.report["verdict"] == "refused":
-        still = "agrees with all responses up to then" if weak and not is_alone else "still fits"
+        still = "agrees with all responses up to then" if weak and not is_alone else "fits"
         lines += [since(told, entry, still), *in_the_end(evidence.recording)]
     else:
         lines.append(f"the first {last} lines are enough to show it (`head -{last}`)")
@@ -126,7 +126,8 @@ def with_warnings(told: Explanation, warnings: list) -> Explanation:
     """The explanation, and before all else what the verdict may hide, where there is something."""
     if not warnings:
         return told
-    count = "a warning" if len(warnings) == 1 else f"{counted(len(warnings))} warnings"
+    number = sum(int(more[1]) if (more := re.match(r"and (\d+) more ", warning)) else 1 for warning in warnings)
+    count = "a warning" if number == 1 else f"{counted(number)} warnings"
     headline = re.sub(rf"^(accepted|{WEAK_ALONE}): ", rf"\1, with {count}: ", told.headline)
     return told._replace(headline=headline, sections=[Section(HIDDEN, warnings), *told.sections])
 
@@ -144,7 +145,7 @@ def accepted(evidence: Evidence) -> tuple:
     order = " ".join(report["order"]) or "(there are no elements)"
     said = {0: "there was no response to judge", 1: "its one response fits one order of the elements", 2: "both responses fit one order of the elements"}
     return (f"accepted: {said.get(report['operations'], 'all ' + str(report['operations']) + ' responses fit one order of the elements')}.",
-            [Section("The first order that fits all responses, with deleted elements", [order])])
+            [Section("One order that fits all responses (deleted elements included)", [order])])
 
 
 def refused(evidence: Evidence) -> tuple:
@@ -184,9 +185,9 @@ def in_the_end(recording: Recording) -> list:
     if len(whole) < 2:
         return []
     told = joined([str(operation.replica) for operation in whole])
-    is_one = len({tuple(operation.response) for operation in whole}) == 1
-    shown = "the same list" if is_one else "different lists, though perhaps the same text"
-    return [f"in the end replicas {told} have every change and show {shown}"]
+    lists, sets = ({kind(operation.response) for operation in whole} for kind in (tuple, frozenset))
+    shown = "the same list" if len(lists) == 1 else "the same elements in different orders" if len(sets) == 1 else "different lists"
+    return [f"in the end replicas {told} have every change, by their receipts, and show {shown}"]
 
 
 def life(recording: Recording, name: str) -> str:
@@ -227,8 +228,13 @@ def gone_there(deletes: list) -> str:
 
 def beside_hidden(evidence: Evidence) -> list:
     """Which elements had been put beside ones that are deleted for the response that shows them."""
-    return [f"{insert.element} was put {beside(insert, names)}, which {'were' if names[1:] else 'was'} already deleted at {at(operation)}"
+    return [f"{insert.element} was put {beside(insert, names)}. At {at(operation)}, {joined([gone_by(evidence, name, operation) for name in names])}"
             for insert, names, operation in evidence.hidden_neighbours]
+
+
+def gone_by(evidence: Evidence, name: str, operation: Operation) -> str:
+    delete = next(filter(operation.has_seen, evidence.recording.deletes[name]))
+    return f"{name} was deleted already, by {at(delete)}"
 
 
 def beside(insert: Operation, names: list) -> str:
@@ -271,7 +277,7 @@ def what_is_wrong(evidence: Evidence, operation: Operation) -> str:
     """What the response lacks of what its replica had, and has beside that."""
     replica, told = operation.replica, []
     if evidence.missing:
-        told.append(f"lacks {elements_of(len(evidence.missing))} that replica {replica} had by then")
+        told.append(f"lacks {elements_of(len(evidence.missing))} that replica {replica} should have had by then")
     if evidence.surplus:
         told.append(f"has {elements_of(len(evidence.surplus))} that should not be there")
     if evidence.repeated:
@@ -293,7 +299,7 @@ def expected(evidence: Evidence, operation: Operation) -> str:
     return f"it should hold, in any order: {marked(wanted, set(evidence.missing))}"
 
 
-def since(evidence: Evidence, operation: Operation, still: str = "is still right") -> str:
+def since(evidence: Evidence, operation: Operation, still: str = "is right") -> str:
     """What came to the replica since its operation before, which is right: the program names the first fault."""
     before, receipts = evidence.before(operation)
     arrived = [f"{receipt.seen.name} (line {receipt.line})" for receipt in receipts]
@@ -301,7 +307,7 @@ def since(evidence: Evidence, operation: Operation, still: str = "is still right
     came = "received " + ", ".join(arrived[:MOST_ARRIVED]) + more if arrived else "received nothing"
     if not before:
         return f"before it: replica {operation.replica} did nothing, and {came}"
-    return f"before it: {at(before[0])} {still}; since then replica {operation.replica} {came}"
+    return f"before it: replica {operation.replica}'s {at(before[0])} {still}; since then it {came}"
 
 
 def facts(evidence: Evidence, name: str, operation: Operation) -> list:
@@ -333,14 +339,14 @@ def overtaken(evidence: Evidence, change: Operation, operation: Operation) -> li
         had = "" if own.seen.replica == brought.seen.replica else f", whose author already had {change.name},"
         if own.seen is change:
             return [f"{change.name}'s own receipt comes only in line {own.line} ({own.text}). {brought.seen.name}{had} overtook it in line "
-                    f"{brought.line}: that order is not causal"]
+                    f"{brought.line}: that is not causal order"]
         return [f"no receipt at replica {replica} names {change.name}; the next from its author is line {own.line} ({own.text}). {change.name} was "
                 f"lost, or {brought.seen.name}{had} overtook it in line {brought.line}"]
     if change.replica == brought.seen.replica:
-        return [f"{change.name} has no receipt of its own at replica {replica}, though all other changes of replica {change.replica} have one. It was "
-                f"lost, or {brought.seen.name} overtook it in line {brought.line}"]
+        return [f"{change.name} has no receipt of its own at replica {replica}, though all other changes of replica {change.replica} have one. {change.name} "
+                f"was lost, or {brought.seen.name} overtook it in line {brought.line}"]
     return [f"{change.name} has no receipt of its own at replica {replica}, and counts as arrived with {at(brought.seen)}, whose author had it. If each "
-            f"operation travels by itself, {change.name} had not arrived before: that order is not causal"]
+            f"operation travels by itself, {brought.seen.name} arrived without {change.name}: that is not causal order"]
 
 
 def neighbours(evidence: Evidence, insert: Operation) -> list:
@@ -355,7 +361,7 @@ def neighbours(evidence: Evidence, insert: Operation) -> list:
         return []
     if not gone:
         was = "was not deleted there" if len(names) == 1 else "were not deleted there"
-        return [f"was put {beside(insert, names)}, which {was} when {insert.element} arrived (line {receipt.line})"]
+        return [f"was put {beside(insert, names)}. When it arrived at replica {receipt.replica} in line {receipt.line}, {joined(names)} {was}"]
     if evidence.recording.is_delivered(receipt.line):
         return [f"was put {beside(insert, names)}. By line {receipt.line}, {gone_there(gone)}"]
     return [f"was put {beside(insert, names)}. {when_arrived(receipt, gone)}"]
@@ -370,9 +376,16 @@ def arrived(recording: Recording, seen: Operation, operation: Operation) -> str:
     way = recording.way(seen, operation)
     if not way:
         return f"an earlier operation of replica {operation.replica}"
-    hops = [f"arrived at replica {receipt.replica} in line {receipt.line} ({receipt.text})"
-            + ", which `delivered` wrote" * recording.is_delivered(receipt.line) for receipt in way]
-    return ", and from there ".join(hops)
+    hops = [f"{how_arrived(receipt, seen if receipt is way[0] else receipt.seen)} in line {receipt.line} ({receipt.text})"
+            + ", a line that `delivered` wrote" * recording.is_delivered(receipt.line) for receipt in way]
+    return "which " + ", and from there ".join(hops)
+
+
+def how_arrived(receipt: Receipt, seen: Operation) -> str:
+    """That an operation arrived by a receipt of its own, or with what another one names."""
+    if receipt.seen is seen:
+        return f"arrived at replica {receipt.replica}"
+    return f"counts as arrived at replica {receipt.replica} with {receipt.seen.name}"
 
 
 def not_arrived(recording: Recording, seen: Operation, operation: Operation) -> str:
@@ -390,7 +403,7 @@ def position(evidence: Evidence) -> tuple:
     asked = place_asked(operation, response)
     lines = [did(operation, is_first=True), f"answered: {answer(evidence, operation)}"]
     if asked < 0:
-        lines.append("asked for: a place in the list, but the response is empty")
+        lines.append(f"asked for: position {operation.at}, but the response is empty")
     else:
         end = f", past the end, so the last place ({asked})" if operation.at > asked else ""
         lines.append(f"asked for: position {operation.at}{end}; the answer has [{response[asked]}] there")
@@ -398,8 +411,8 @@ def position(evidence: Evidence) -> tuple:
         lines.append(f"found at: position {response.index(operation.element)}")
     else:
         gone = next(change for change in evidence.recording.deletes[operation.element] if operation.has_seen(change))
-        lines.append(f"found at: no position: deleted by {at(gone)}, {arrived(evidence.recording, gone, operation)}")
-    return (f"position {operation.name}: {operation.element} does not stand where it was asked for.",
+        lines.append(f"found at: no position, since it was deleted by {at(gone)}, {arrived(evidence.recording, gone, operation)}")
+    return (f"position {operation.name}: {operation.element} is not at the position that was asked for.",
             [Section("The response, positions counted from 0", lines)])
 
 
