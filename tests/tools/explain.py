@@ -90,8 +90,8 @@ WORDS = [
      "[a] before [b]: line 5 of the trace, 1.1: replica 1 inserted b at position 1, answered [a] [b]|"
      "[b] before [a]: line 7, 0.2: replica 0 read the list, answered [b] [a]|"
      "a arrived at replica 1 in line 4, b at replica 0 in line 6|"
-     "Look at where a replica places an incoming insert: when 1.1 (line 5) inserted [b], its replica had [a] already, so their order was "
-     "fixed; yet two responses differ about it. Often the clock that decides between inserts does not advance when changes arrive, or the neighbour is not found.|"
+     "Look at where a replica places an incoming insert: replica 1 had [a] already when it inserted [b] (1.1, line 5), and so fixed the "
+     "order of the two; yet two responses differ about it. Often the clock that decides between inserts does not advance when changes arrive, or the neighbour is not found.|"
      "If the list is sorted by position identifiers, print those of a and b at line 5. If they do not rise in this order, look at how the "
      "one of b was made; if they do, at how identifiers are compared (numbers must not be compared as text)." + stop(6, "replica 0 applies 1.1", 4)),
     ("three-way cycle", 3, THREE_WAY,
@@ -118,8 +118,8 @@ WORDS = [
      "c arrived at replica 0 in line 6, d at replica 1 in line 10||Where to look|"
      "If inserts find their place by a neighbour and replicas throw deleted elements away, look at inserts beside deleted elements: the lines above name an insert that arrived where its "
      "neighbour had been deleted. Without that neighbour nothing says where the insert belongs.|"
-     "Look at where a replica places an incoming insert: when 0.3 (line 9) inserted [d], its replica had [c] already, so their order was "
-     "fixed; yet two responses differ about it. Often the clock that decides between inserts does not advance when changes arrive, or the neighbour is not found. If the editor "
+     "Look at where a replica places an incoming insert: replica 0 had [c] already when it inserted [d] (0.3, line 9), and so fixed the "
+     "order of the two; yet two responses differ about it. Often the clock that decides between inserts does not advance when changes arrive, or the neighbour is not found. If the editor "
      "sends positions, the position of d was perhaps not adjusted for the delete of b by 1.2 (line 8), which replica 1 knew and the author of d did not.|"
      "If the list is sorted by position identifiers, print those of b, d and c at line 9. If they do not rise in this order, look at how "
      "the one of d was made; if they do, at how identifiers are compared (numbers must not be compared as text)." + stop(10, "replica 1 applies 0.3", 6)),
@@ -127,12 +127,12 @@ WORDS = [
      "0 del b : a|1 recv 0 3|1 read :|1 ins d 0 : d|1 recv 2 1|1 read : c d|2 recv 1 3|2 read : d c",
      "[d] before [c]: line 16 of the trace, 2.2: replica 2 read the list, answered [d] [c]|"
      "[c] before [d]: line 14, 1.4: replica 1 read the list, answered [c] [d]|"
-     "c was put behind a and before b. When it arrived at replica 1 in line 13, a was already deleted there by 1.1 (line 8) and b was already deleted there by 0.3 "
-     "(line 9)|c arrived at replica 1 in line 13, d at replica 2 in line 15"),
+     "c was put behind a and before b. When it arrived at replica 1 in line 13, both were already deleted there: a by 1.1 (line 8), b by 0.3 (line "
+     "9)|c arrived at replica 1 in line 13, d at replica 2 in line 15"),
     ("a session that goes on", 2, f"{BESIDE_DELETED}|0 recv 1 2|0 read : d c|1 read : c d",
      "When it went wrong|line 11 of the trace, 1.3: replica 1 read the list. Up to line 10 the session is accepted; line 11 leads to `refused 2`|"
      "before it: replica 1's 1.2 (line 8) fits; since then it received 0.3 (line 10)|"
-     "in the end replicas 0 and 1 have every change, by their receipts, and show the same elements in different orders||"
+     "in the end replicas 0 and 1 count as having every change, and show the same elements in different orders||"
      "What they show: a circle, which no order allows|"
      "[d] before [c]: line 9, 0.3: replica 0 inserted d at position 1, answered b [d] [c]|"
      "[c] before [d]: line 11, 1.3: replica 1 read the list, answered [c] [d]||The elements|"
@@ -141,14 +141,14 @@ WORDS = [
     ("a session that goes on, with one list in the end", 2, f"{BESIDE_DELETED}|0 recv 1 2|0 read : c d",
      "When it went wrong|line 11 of the trace, 1.3: replica 1 read the list. Up to line 10 the session is accepted; line 11 leads to `refused 2`|"
      "before it: replica 1's 1.2 (line 8) fits; since then it received 0.3 (line 10)|"
-     "in the end replicas 0 and 1 have every change, by their receipts, and show the same list||Where to look" + stop(10, "replica 1 applies 0.3", 6)),
+     "in the end replicas 0 and 1 count as having every change, and show the same list||Where to look" + stop(10, "replica 1 applies 0.3", 6)),
     ("a beginning that shows something else", 3, f"{THREE_WAY}|1 recv 0 2|1 recv 2 1|1 read : a b",
      "refused 3: three responses can't be right together. Any two of them can. This is the verdict on the first 11 lines; the "
      "whole trace gets `refused 2` (see below).||"
      "When it went wrong|line 11 of the trace, 0.3: replica 0 read the list. Up to line 10 the session is accepted; line 11 leads to "
      "`refused 3`|"
      "before it: replica 0's 0.2 (line 8) fits; since then it received 1.1 (line 9), 2.1 (line 10)|"
-     "in the end replicas 0 and 1 have every change, by their receipts, and show the same elements in different orders||"
+     "in the end replicas 0 and 1 count as having every change, and show the same elements in different orders||"
      "What they show: a circle, which no order allows|"
      "[x] before [b]: line 7, 2.1: replica 2 inserted b at position 1, answered [x] [b]|"
      "[b] before [a]: line 11, 0.3: replica 0 read the list, answered [b] [a]|"
@@ -158,12 +158,12 @@ WORDS = [
      "Where to look|"
      "Look at positions beside deleted elements: any two of 2.1, 0.3 and 1.1 fit together, but perhaps an insert lost its place "
      "because its neighbour was deleted elsewhere. The lines above say which elements each response no longer has.|"
-     "For the whole trace: if inserts find their place by a neighbour and replicas throw deleted elements away, look at inserts beside deleted elements: the lines above name an insert that arrived "
+     "For the verdict on the whole trace (below): if inserts find their place by a neighbour and replicas throw deleted elements away, look at inserts beside deleted elements: the lines above name an insert that arrived "
      "where its neighbour had been deleted. Without that neighbour nothing says where the insert belongs.|"
-     "For the whole trace: look at the order of concurrent inserts: a and b were inserted without knowing of each other, and were shown in two "
+     "For the verdict on the whole trace (below): look at the order of concurrent inserts: a and b were inserted without knowing of each other, and were shown in two "
      "different orders. Use a rule that gives the same order everywhere (such as the replicas' numbers), and not the order of "
      "arrival. If the editor sends positions, the position of b was perhaps not adjusted for the delete of x by 0.2 (line 8), which replica 1 "
-     "knew and the author of b did not; or the position of the delete was not adjusted for another insert.|"
+     "knew and the author of b did not; or the position of the delete was not adjusted for an insert that its author had not seen.|"
      "" + stop(10, "replica 0 applies 2.1", 9, 5, 4) + "||What the whole trace shows: a circle, which no order allows|"
      "[a] before [b]: line 14, 1.2: replica 1 read the list, answered [a] [b]|"
      "[b] before [a]: line 11, 0.3: replica 0 read the list, answered [b] [a]"),
@@ -177,15 +177,15 @@ WORDS = [
      "c was put behind b. At 1.3 (line 9), b was deleted already, by 1.2 (line 8)|c arrived at replica 1 in line 6, a at replica 1 in line 6" + stop(6, "replica 1 applies 0.3")),
     ("an element between two that are deleted later", 2, "0 ins a 0 : a|0 ins b 1 : a b|0 ins c 1 : a c b|0 ins d 3 : a c b d|1 recv 0 4|"
      "1 read : a c b d|1 del a : c b d|1 del b : c d|1 read : d c",
-     "c was put behind a and before b. At 1.4 (line 11), a was deleted already, by 1.2 (line 9) and b was deleted already, by 1.3 (line 10)"),
+     "c was put behind a and before b. At 1.4 (line 11), both were deleted already: a by 1.2 (line 9), b by 1.3 (line 10)"),
     ("a ring of three that hear of one another", 3, "0 ins a 0 : a|1 ins b 0 : b|2 ins c 0 : c|0 recv 1 1|0 read : a b|1 recv 2 1|"
      "1 read : b c|2 recv 0 1|2 read : c a",
      "[a] before [b]: line 7 of the trace, 0.2: replica 0 read the list, answered [a] [b]|"
      "[b] before [c]: line 9, 1.2: replica 1 read the list, answered [b] [c]|"
      "[c] before [a]: line 11, 2.2: replica 2 read the list, answered [c] [a]|"
      "b arrived at replica 0 in line 6, c at replica 1 in line 8, a at replica 2 in line 10|"
-     "Look at how a replica orders elements when it has only some of them: any two of 0.2, 1.2 and 2.2 fit together. An element that "
-     "such a response lacks was not deleted by then: it had not arrived at that replica yet. Often the rule that orders concurrent inserts is not the same everywhere."
+     "Look at how a replica orders elements when it has only some of them: any two of 0.2, 1.2 and 2.2 fit together. Where one of "
+     "these responses lacks an element, that was not deleted there: it had not arrived yet. Often the rule that orders concurrent inserts is not the same everywhere."
      + stop(10, "replica 2 applies 0.1", 8, 6)),
     ("an element that came along with what had seen it", 3, "0 ins a 0 : a|1 recv 0 1|1 read : a|1 ins b 1 : a b|2 recv 1 1|2 recv 1 2|"
      "2 recv 0 1|2 read : b a",
@@ -202,11 +202,11 @@ WORDS = [
      "line 7 of the trace, 2.1: replica 2 read the list|answered: b|it should hold, in any order: b [a]|"
      "before it: replica 2 did nothing, and received 1.1 (line 6)|Missing|"
      "[a] inserted by 0.1 (line 3), which arrived at replica 1 in line 4 (1 recv 0 1), and from there arrived at replica 2 in line 6 "
-     "(2 recv 1 1)|[a] 0.1 has no receipt of its own at replica 2, and counts as arrived with 1.1 (line 5), whose author had it. If "
+     "(2 recv 1 1)|[a] 0.1 has no receipt of its own at replica 2, and counts as arrived with 1.1, in line 6; its author had 0.1. If "
      "each operation travels by itself, 1.1 arrived without 0.1: that is not causal order|[a] no operation deletes it||Where to look|"
      "Look first at whether 0.1 was lost on its way to replica 2: no receipt there names it. If it was not lost but overtaken, look at the order in which "
      "operations arrive. Apply an operation only after everything that its author had seen, or send all of that together with it. If the editor itself holds "
-     f"operations back, write the receipt of each only when it is applied. {GUIDE} shows how to record either."),
+     f"operations back, write the receipt of each only when it is applied. {GUIDE} shows what to record in each case."),
     ("an element lost that arrived after what had seen it", 3,
      "0 ins a 0 : a|1 recv 0 1|1 ins b 1 : a b|2 recv 1 1|2 recv 0 1|2 read : b",
      "line 8 of the trace, 2.1: replica 2 read the list|[a] 0.1's own receipt comes only in line 7 (2 recv 0 1). 1.1, whose author "
@@ -247,10 +247,10 @@ WORDS = [
     ("a change that is applied twice", 2, "0 ins a 0 : a|0 ins b 1 : a b|1 recv 0 2|1 read : a b a", "Named more than once|"
      "[a] inserted by 0.1 (line 3), which counts as arrived at replica 1 with 0.2 in line 5 (1 recv 0 2)||Where to look|"
      "It looks as if 0.1 (line 3) was applied twice at replica 1: look at what the editor does with a change that arrives a second time, and at "
-     "whether one that waits is applied when it arrives as well."),
+     "whether a change that was held back is applied twice: on arrival and again later."),
     ("its own changes that come back", 1, "0 ins a 0 : a|0 ins b 1 : a b|0 read : a b a b", "Named more than once||Where to look|"
      "It looks as if 0.1 (line 3) and 0.2 (line 4) were applied twice at replica 0: look at what the editor does with a change that arrives a second "
-     "time (its own may come back, from a server say), and at whether one that waits is applied when it arrives as well.|"),
+     "time (a server may send a replica its own changes back), and at whether a change that was held back is applied twice: on arrival and again later.|"),
     ("its own delete", 1, "0 ins a 0 : a|0 del a : a", "[a] inserted by 0.1 (line 3), an earlier operation of replica 0|"
      "[a] deleted by 0.2 (line 4), this operation itself"),
     ("a deleted element in a view", 1, "0 ins a 0 : a|0 ins b 1 : a b|0 del a : b|0 view : a",
@@ -300,11 +300,11 @@ WORDS = [
      "Missing|[b] inserted by 0.2 (line 4), which arrived at replica 1 in line 5 (1 recv 0 2)|"
      "[b] was put behind a. When it arrived at replica 1 in line 5, a was not deleted there|[b] no operation deletes it||"
      "Where to look|"
-     "0.3 (line 7) deletes a, already deleted at replica 1 by 1.2 (line 8): look at what the editor does with a delete whose element is gone. The "
+     "When 0.3 (line 7) was applied at replica 1, its element a was already deleted there, by 1.2 (line 8): look at what the editor does with a delete whose element is gone. The "
      "editor may have deleted b instead." + stop(9, "replica 1 applies 0.3")),
     ("a delete of one's own after another's", 2, "0 ins a 0 : a|0 ins b 1 : a b|1 recv 0 2|1 del a : b|0 recv 1 1|0 del a :",
      "contents 0.3: this response lacks one element that replica 0 should have had by then.|"
-     "0.3 (line 8) deletes a, already deleted at replica 0 by 1.1 (line 6): look at what the editor does with a delete whose element is gone. The "
+     "When 0.3 (line 8) was applied at replica 0, its element a was already deleted there, by 1.1 (line 6): look at what the editor does with a delete whose element is gone. The "
      "editor may have deleted b instead." + stop(7, "replica 0 applies 1.1")),
     ("an element lost whose neighbour was deleted where it arrived", 2, "0 ins a 0 : a|0 ins b 1 : a b|1 recv 0 2|1 read : a b|0 ins c 1 : a c b|1 del a : b|"
      "1 recv 0 3|1 read : b",
@@ -322,7 +322,7 @@ WORDS = [
      "[b] inserted by 0.2 (line 4), which counts as arrived at replica 1 with 0.3 in line 7 (1 recv 0 3)|"
      "[b] 0.2's own receipt comes only in line 9 (1 recv 0 2). 0.3 overtook it in line 7: that is not causal order|[b] no operation deletes it|"
      "Look at the order in which operations arrive: 0.2 was overtaken, as told above. Apply an operation only after everything that its author had seen, or send all of that together with it. If the editor itself holds "
-     f"operations back, write the receipt of each only when it is applied. {GUIDE} shows how to record either."
+     f"operations back, write the receipt of each only when it is applied. {GUIDE} shows what to record in each case."
      + stop(7, "replica 1 applies 0.3")),
     ("a change without a receipt, as each other of its author has one", 2, "0 ins a 0 : a|0 ins b 1 : a b|0 ins c 2 : a b c|0 ins d 3 : a b c d|1 recv 0 1|"
      "1 read : a|1 recv 0 3|1 read : a c|1 recv 0 4|1 read : a c d",
@@ -331,8 +331,8 @@ WORDS = [
      "[b] inserted by 0.2 (line 4), which counts as arrived at replica 1 with 0.3 in line 6 (1 recv 0 3)|"
      "[b] was put behind a. When it arrived at replica 1 in line 6, a was not deleted there|[b] no operation deletes it||Where to "
      "look|It looks as if 0.2 (line 4) was not applied at replica 1: lost, or held back, or `received` is called before the change is applied.|No "
-     "receipt at replica 1 names 0.2 (line 4): the recording counts it as arrived with 0.3 (line 5). If you record a receipt for each change, "
-     "0.3 (line 5) overtook it, or it was lost."),
+     "receipt at replica 1 names 0.2 (line 4): it counts as arrived with 0.3, in line 6. If you record a receipt for each change, 0.2 was "
+     "lost, or 0.3 overtook it."),
     ("a change that is lost before others of a server's order", 3, "0 ins a 0 : a|0 ins b 0 : b a|1 recv 0 1|1 read : a|1 ins c 1 : a c|2 recv 0 1|"
      "2 ins y 1 : a y|0 recv 2 1|0 recv 1 2|0 read : b a y c|1 recv 2 1|1 read : a c y|0 ins d 4 : b a y c d|0 ins e 5 : b a y c d e|1 recv 0 4|"
      "1 read : a c y d|1 recv 0 5|1 read : a c y d e",
@@ -343,15 +343,15 @@ WORDS = [
     ("a delete that meets an insert and a delete which did not know each other", 2, "0 ins a 0 : a|0 ins b 1 : a b|0 ins c 2 : a b c|1 recv 0 3|"
      "1 read : a b c|0 del a : b c|1 ins d 3 : a b c d|0 recv 1 2|0 read : b c d|1 del c : a b d|0 recv 1 3|0 read : b c",
      "It looks as if 1.3 (line 12), applied at replica 0, deleted d instead of c: look at how a replica that applies a delete finds the element, and at whether the recorder "
-     "names the element that was deleted. If the editor sends positions, the position of 1.3 was perhaps not adjusted for the delete of a by 0.4 (line 8), which the author of 1.3 had not seen; or an earlier insert was not adjusted for another delete." + stop(13, "replica 0 applies 1.3")),
+     "names the element that was deleted. If the editor sends positions, the position of 1.3 was perhaps not adjusted for the delete of a by 0.4 (line 8), which the author of 1.3 had not seen; or an earlier insert was not adjusted for a delete that its author had not seen." + stop(13, "replica 0 applies 1.3")),
     ("a delete that takes what is deleted later", 2, "0 ins a 0 : a|0 ins b 1 : a b|1 recv 0 2|1 read : a b|1 del a : b|0 ins c 0 : c a b|0 recv 1 2|"
      "0 read : a b|0 del c : a b",
      "It looks as if 1.2 (line 7), applied at replica 0, deleted c instead of a: look at how a replica that applies a delete finds the element, and at whether the recorder "
      "names the element that was deleted. If the editor sends positions, the position of 1.2 was perhaps not adjusted for the insert of c by 0.3 (line 8), which the author of 1.2 had not seen." + stop(9, "replica 0 applies 1.2")),
     ("an insert that another one at its place has shifted", 2, "0 ins b 0 : b|0 ins c 0 : c b|1 ins a 0 : a|1 recv 0 1|1 read : a b|1 recv 0 2|"
      "1 read : a b c",
-     "Look at where a replica places an incoming insert: when 0.2 (line 4) inserted [c], its replica had [b] already, so their order was fixed; "
-     "yet two responses differ about it. Often the clock that decides between inserts does not advance when changes arrive, or the neighbour is not found. a was inserted at the same "
+     "Look at where a replica places an incoming insert: replica 0 had [b] already when it inserted [c] (0.2, line 4), and so fixed the order "
+     "of the two; yet two responses differ about it. Often the clock that decides between inserts does not advance when changes arrive, or the neighbour is not found. a was inserted at the same "
      "place as c, and neither author had seen the other's insert. Look also at which of them comes first." + stop(8, "replica 1 applies 0.2", 6)),
     ("a receipt that comes before the change is applied", 2, "0 ins a 0 : a|1 recv 0 1|1 read : a|0 ins b 1 : a b|0 del a : b|1 recv 0 3|1 read : a",
      "contents 1.2: this response lacks one element that replica 1 should have had by then, and has one element that should not be there.||"
@@ -378,13 +378,13 @@ WORDS = [
      "strong and weak fail"),
     ("a delete that meets an insert which did not know it", 2, "0 ins a 0 : a|0 ins b 1 : a b|0 ins c 2 : a b c|1 recv 0 3|1 read : a b c|1 del a : b c|"
      "0 ins d 2 : a b d c|1 recv 0 4|1 read : b c d",
-     "Look at where a replica places an incoming insert: when 0.4 (line 9) inserted [d], its replica had [c] already, so their order was "
-     "fixed; yet two responses differ about it. Often the clock that decides between inserts does not advance when changes arrive, or the neighbour is not found. If the editor "
+     "Look at where a replica places an incoming insert: replica 0 had [c] already when it inserted [d] (0.4, line 9), and so fixed the "
+     "order of the two; yet two responses differ about it. Often the clock that decides between inserts does not advance when changes arrive, or the neighbour is not found. If the editor "
      "sends positions, the position of d was perhaps not adjusted for the delete of a by 1.2 (line 8), which replica 1 knew and the author of d did not." + stop(10, "replica 1 applies 0.4", 6)),
     ("a delete that becomes nothing beside an insert that its author did not know", 2, "0 ins a 0 : a|1 recv 0 1|1 read : a|0 del a :|"
      "1 ins b 0 : b a|1 recv 0 2|1 read : b a",
      "It looks as if 0.2 (line 6) was not applied at replica 1: lost, or held back, or `received` is called before the change is applied. "
-     "If the editor sends positions, the position of 0.2 was perhaps not adjusted for the insert of b by 1.2 (line 7), which the author of 0.2 "
+     "Or it was applied in the wrong place: if the editor sends positions, the position of 0.2 was perhaps not adjusted for the insert of b by 1.2 (line 7), which the author of 0.2 "
      "had not seen."),
     ("a delete of one of two that were inserted at one place", 2, "0 ins a 0 : a|0 del a :|1 ins b 0 : b|1 recv 0 1|1 read : a b|1 recv 0 2|1 read : a",
      "It looks as if 0.2 (line 4), applied at replica 1, deleted b instead of a: look at how a replica that applies a delete finds the element, and at whether the recorder "
@@ -394,7 +394,7 @@ WORDS = [
      "line 4 of the trace, 0.2: replica 0 inserted b at position 1|line 5, 1.1: replica 1 inserted b at position 0||"
      "Where to look|"
      "Look at the recorder first: each inserted element needs a name of its own, for ever. Two equal letters need two names. Each pasted "
-     "element needs a new name; so does one that undo inserts again as a new element.|"
+     "element needs a new name; so does an element that comes back by undo, if it comes back as a new one.|"
      "If that name is the editor's own id, the editor made it twice: look at what makes ids. Usual causes: a clock that goes back when a change arrives, or "
      "at a restart; two replicas with the same number.||The list specifications|"
      "neither the strong nor the weak one was judged: both know an element by its name"),
@@ -541,7 +541,7 @@ PLANTED = {
     "mapping": (150, 40, ["perhaps not adjusted for the delete", "perhaps not adjusted for the insert"]),
     "unmoved": (80, 40, [" was perhaps not adjusted for", "not adjusted for an insert", "not adjusted for inserts"]),
     "behind": (80, 40, ["order of concurrent inserts", "neither author had seen the other's insert"]),
-    "twice": (500, 10, ["already deleted at replica"]),
+    "twice": (500, 10, ["was already deleted there, by"]),
     "overtaking": (100, 50, ["overtook it in line"]),
     "none": (60, 0, []),
     "none_behind_server": (60, 0, []),

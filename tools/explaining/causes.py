@@ -19,8 +19,8 @@ ARRIVAL = ("Check three things, one after the other. Recorder: `received` must b
            "arrive after all those that its author had seen. Editor: does it lose a change, apply it twice, or apply it to another element? "
            f"{GUIDE} says where the calls go.")
 APPLIED_TWICE = ("It looks as if {changes} {were} applied twice at replica {replica}: look at what the editor does with a change that arrives a second "
-                 "time{back}, and at whether one that waits is applied when it arrives as well.")
-OWN_BACK = " (its own may come back, from a server say)"
+                 "time{back}, and at whether a change that was held back is applied twice: on arrival and again later.")
+OWN_BACK = " (a server may send a replica its own changes back)"
 UNDELIVERED = ("Only `delivered` ({lines}) says that {changes} arrived at replica {replica}; no response before shows {them}. {They} lost, or "
                "{are} held back for ever{waiting}. Look at what keeps changes waiting.")
 WAITING = "; {others}, which came later, perhaps wait{s} for {it}"
@@ -28,8 +28,8 @@ NO_PLACE = (" Perhaps {insert} finds no place there for {element}: its neighbour
             "early loses such an insert or holds it back for ever.")
 NOT_APPLIED = ("It looks as if {changes} {were} not applied at replica {replica}: lost, or held back, or `received` is called before the "
                "change is applied.{moved}")
-BROUGHT = ("No receipt at replica {replica} names {changes}: the recording counts {them} as arrived with {brought}. If you record a receipt "
-           "for each change, {brought} overtook {them}, or {they} {were} lost.")
+BROUGHT = ("No receipt at replica {replica} names {changes}: {they} as arrived with {brought}, in line {line}. If you record a receipt for each change, "
+           "{names} {were} lost, or {brought} overtook {them}.")
 LOST = ("Look first at whether {changes} {were} lost on {their} way to replica {replica}, or overtaken: no receipt there names {them}, though {others}. "
         "In an editor that sends positions, later changes then land in the wrong place.")
 OTHERS_HAVE = "all other changes of replica {author} have one"
@@ -40,13 +40,13 @@ WRONG_DELETE = ("It looks as if {delete}, applied at replica {replica}, deleted 
                 "delete finds the element, and at whether the recorder names the element that was deleted.{moved}")
 MOVED_DELETE = (" If the editor sends positions, the position of {delete} was perhaps not adjusted for {changes}, which the author of {delete} had "
                 "not seen{back}.{tie}")
-MOVED_BEFORE = "; or an earlier insert was not adjusted for another delete"
+MOVED_BEFORE = "; or an earlier insert was not adjusted for a delete that its author had not seen"
 PUT_AT_ONCE = (" {others} {were} inserted at the same place as {element}, and neither author had seen the other's insert. Look also at which "
                "of them comes first.")
-SECOND_DELETE = ("{again} deletes {element}, already deleted at replica {replica} by {first}: look at what the editor does with a delete whose element "
-                 "is gone. The editor may have deleted {missing} instead.{moved}")
+SECOND_DELETE = ("When {again} was applied at replica {replica}, its element {element} was already deleted there, by {first}: look at what the editor does "
+                 "with a delete whose element is gone. The editor may have deleted {missing} instead.{moved}")
 CAUSAL = ("Apply an operation only after everything that its author had seen, or send all of that together with it. If the editor itself holds operations "
-          f"back, write the receipt of each only when it is applied. {GUIDE} shows how to record either.")
+          f"back, write the receipt of each only when it is applied. {GUIDE} shows what to record in each case.")
 OVERTAKEN = "Look at the order in which operations arrive: {name} was overtaken, as told above. " + CAUSAL
 LOST_OR_OVERTAKEN = ("Look first at whether {name} was lost on its way to replica {replica}: no receipt there names it. If it was not lost but overtaken, "
                      "look at the order in which operations arrive. ") + CAUSAL
@@ -67,8 +67,8 @@ BESIDE_DELETED = ("If inserts find their place by a neighbour and replicas throw
                   "lines above name {which}. Without that neighbour nothing says where the insert belongs.")
 SEVERAL_DELETED = ("Look at positions beside deleted elements: any {fewer} of {named} fit together, but perhaps an insert lost its place "
                    "because its neighbour was deleted elsewhere. The lines above say which elements each response no longer has.")
-SEVERAL_APART = ("Look at how a replica orders elements when it has only some of them: any {fewer} of {named} fit together. An "
-                 "element that such a response lacks was not deleted by then: it had not arrived at that replica yet. Often the rule that orders concurrent "
+SEVERAL_APART = ("Look at how a replica orders elements when it has only some of them: any {fewer} of {named} fit together. Where one "
+                 "of these responses lacks an element, that was not deleted there: it had not arrived yet. Often the rule that orders concurrent "
                  "inserts is not the same everywhere.")
 WEAK_ALONE_HOLDS = ("An editor whose server orders all changes, as Jupiter's does, promises only the weak list specification, and up to line {line} "
                     "that holds. To ask for that only, use --weak.")
@@ -81,14 +81,14 @@ POSITIONS = ("Look at how a position is adjusted where a change arrives: the pos
 EITHER = ("Look at the order of concurrent inserts: {first} and {then} were inserted at one place without knowing of each other, and were shown in two "
           "different orders. Either the rule that orders them is not the same everywhere; or the position of {element} was not adjusted for {changes}, "
           "which replica {replica} knew and the author of {element} did not{back}.")
-SEEN = ("Look at where a replica places an incoming insert: when {later} inserted [{new}], its replica had [{old}] already, so their order was fixed; "
-        "yet two responses differ about it.{numbers}{moved}")
+SEEN = ("Look at where a replica places an incoming insert: replica {author} had [{old}] already when it inserted [{new}] ({later}, line {line}), and so "
+        "fixed the order of the two; yet two responses differ about it.{numbers}{moved}")
 MOVED_INSERT = (" If the editor sends positions, the position of {element} was perhaps not adjusted for {changes}, which replica {replica} "
                 "knew and the author of {element} did not{back}.")
-MOVED_BACK = {True: "; or the position of the delete was not adjusted for another insert",
-              False: "; or the positions of the deletes were not adjusted for other inserts"}
+MOVED_BACK = {True: "; or the position of the delete was not adjusted for an insert that its author had not seen",
+              False: "; or the positions of the deletes were not adjusted for inserts that their authors had not seen"}
 DOUBLED = ("Look at the recorder first: each inserted element needs a name of its own, for ever. Two equal letters need two names. Each pasted "
-           "element needs a new name; so does one that undo inserts again as a new element.")
+           "element needs a new name; so does an element that comes back by undo, if it comes back as a new one.")
 SAME_ID = ("If that name is the editor's own id, the editor made it twice: look at what makes ids. Usual causes: a clock that goes back when a change arrives, "
            "or at a restart; two replicas with the same number.")
 
@@ -181,8 +181,9 @@ def brought(evidence: Evidence, is_only: bool) -> list:
         if not is_only and not evidence.recording.may_travel_alone(change, replica):
             continue
         came.setdefault(evidence.recording.arrival(change, replica), []).append(change)
-    return [Cause("brought", BROUGHT.format(replica=receipt.replica, brought=at(receipt.seen), them="them" if changes[1:] else "it",
-                                            they="they" if changes[1:] else "it", **changes_told(changes)))
+    return [Cause("brought", BROUGHT.format(replica=receipt.replica, brought=receipt.seen.name, line=receipt.line, them="them" if changes[1:] else "it",
+                                            they="they count" if changes[1:] else "it counts",
+                                            names=listed([change.name for change in changes], MOST_TOLD), **changes_told(changes)))
             for receipt, changes in list(came.items())[:1]]
 
 
@@ -192,7 +193,8 @@ def unlike_receipts(evidence: Evidence) -> list:
     if left_out and added:
         return []
     replica = evidence.operations[0].replica
-    moved = moved_delete(evidence, left_out[0]) if len(left_out) == 1 else ""
+    moved = moved_delete(evidence, left_out[0]).lstrip() if len(left_out) == 1 else ""
+    moved = f" {otherwise('Or it was applied in the wrong place', moved)}" if moved else ""
     return [Cause(name, look.format(replica=replica, moved=moved, **changes_told(changes)))
             for name, look, changes in (("not applied", NOT_APPLIED, left_out), ("no receipt", NO_RECEIPT, added)) if changes]
 
@@ -301,7 +303,7 @@ def of_refusal(evidence: Evidence, weak: bool) -> list:
         return [*lost(evidence), *(causes[::-1] if is_deleted_first else causes), sorted_alike(evidence)]
     later, old = (first, then) if first.has_seen(then) else (then, first)
     moved = moved_over(evidence)
-    told = SEEN.format(later=at(later), new=later.element, old=old.element, numbers="" if weak and moved else NUMBERS_OF_INSERTS,
+    told = SEEN.format(author=later.replica, later=later.name, line=later.line, new=later.element, old=old.element, numbers="" if weak and moved else NUMBERS_OF_INSERTS,
                        moved=MOVED_INSERT.format(**moved) if moved else "")
     told += put_meanwhile(evidence, later) or put_meanwhile(evidence, old)
     if weak and moved:

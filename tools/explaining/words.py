@@ -56,7 +56,7 @@ def of_whole(evidence: Evidence, told: Evidence) -> list:
     contradiction shows more."""
     if not evidence.report.get("k") == 2 < told.report.get("k", 0):
         return []
-    return [Cause(cause.name, otherwise("For the whole trace", cause.told)) for cause in causes_of(evidence)]
+    return [Cause(cause.name, otherwise("For the verdict on the whole trace (below)", cause.told)) for cause in causes_of(evidence)]
 
 
 def specifications(report: dict) -> Section:
@@ -187,7 +187,7 @@ def in_the_end(recording: Recording) -> list:
     told = joined([str(operation.replica) for operation in whole])
     lists, sets = ({kind(operation.response) for operation in whole} for kind in (tuple, frozenset))
     shown = "the same list" if len(lists) == 1 else "the same elements in different orders" if len(sets) == 1 else "different lists"
-    return [f"in the end replicas {told} have every change, by their receipts, and show {shown}"]
+    return [f"in the end replicas {told} count as having every change, and show {shown}"]
 
 
 def life(recording: Recording, name: str) -> str:
@@ -223,18 +223,21 @@ def when_arrived(receipt: Receipt, deletes: list) -> str:
 
 
 def gone_there(deletes: list) -> str:
-    return joined([f"{delete.element} was already deleted there by {at(delete)}" for delete in deletes])
+    if len(deletes) == 1:
+        return f"{deletes[0].element} was already deleted there by {at(deletes[0])}"
+    return f"both were already deleted there: {', '.join(f'{delete.element} by {at(delete)}' for delete in deletes)}"
 
 
 def beside_hidden(evidence: Evidence) -> list:
     """Which elements had been put beside ones that are deleted for the response that shows them."""
-    return [f"{insert.element} was put {beside(insert, names)}. At {at(operation)}, {joined([gone_by(evidence, name, operation) for name in names])}"
+    return [f"{insert.element} was put {beside(insert, names)}. At {at(operation)}, {gone_by(evidence, names, operation)}"
             for insert, names, operation in evidence.hidden_neighbours]
 
 
-def gone_by(evidence: Evidence, name: str, operation: Operation) -> str:
-    delete = next(filter(operation.has_seen, evidence.recording.deletes[name]))
-    return f"{name} was deleted already, by {at(delete)}"
+def gone_by(evidence: Evidence, names: list, operation: Operation) -> str:
+    """By what one or two elements had been deleted for an operation."""
+    told = [f"{name} by {at(next(filter(operation.has_seen, evidence.recording.deletes[name])))}" for name in names]
+    return f"both were deleted already: {', '.join(told)}" if told[1:] else told[0].replace(" by ", " was deleted already, by ", 1)
 
 
 def beside(insert: Operation, names: list) -> str:
@@ -345,7 +348,7 @@ def overtaken(evidence: Evidence, change: Operation, operation: Operation) -> li
     if change.replica == brought.seen.replica:
         return [f"{change.name} has no receipt of its own at replica {replica}, though all other changes of replica {change.replica} have one. {change.name} "
                 f"was lost, or {brought.seen.name} overtook it in line {brought.line}"]
-    return [f"{change.name} has no receipt of its own at replica {replica}, and counts as arrived with {at(brought.seen)}, whose author had it. If each "
+    return [f"{change.name} has no receipt of its own at replica {replica}, and counts as arrived with {brought.seen.name}, in line {brought.line}; its author had {change.name}. If each "
             f"operation travels by itself, {brought.seen.name} arrived without {change.name}: that is not causal order"]
 
 
