@@ -73,7 +73,7 @@ const MOST_CHANGES: usize = 3; // that warnings tell one by one of those that a 
 const MORE_CHANGES: &str = "; if the update carried more than one change, say how many (`changes`)";
 
 /// Why a call was refused: no trace can say it, or a limit of traces is reached.
-#[derive(Clone, Debug, PartialEq, Eq)]
+#[derive(Clone, PartialEq, Eq)]
 pub enum Refused {
     Replicas { replicas: usize },
     NoReplica { replica: usize, last: usize },
@@ -176,6 +176,13 @@ impl Display for Refused {
                 write!(f, "a trace takes at most {MOST_PLACES}")
             }
         }
+    }
+}
+
+/// The same words, since a test that unwraps shows these.
+impl fmt::Debug for Refused {
+    fn fmt(&self, f: &mut fmt::Formatter) -> fmt::Result {
+        Display::fmt(self, f)
     }
 }
 

@@ -83,7 +83,7 @@ WORDS = [
      "b arrived at replica 0 in line 5, a at replica 1 in line 6|"
      "Look at the order of concurrent inserts: a and b were inserted without knowing of each other, and were shown in two different orders. "
      "Use a rule that gives the same order everywhere (such as the replicas' numbers), and not the order of arrival.|"
-     "If the list is sorted by position identifiers, look at those of a and b: are two equal, does one differ between replicas, or are numbers "
+     "If the list is sorted by position identifiers, look at those of a and b: are the two equal, does one differ between replicas, or are numbers "
      "compared as text?" + stop(6, "replica 1 applies 0.1", 5)),
     ("an insert that had seen the other", 2, "0 ins a 0 : a|1 recv 0 1|1 ins b 1 : a b|0 recv 1 1|0 read : b a",
      "refused 2: two responses can't be right together.|"
@@ -103,9 +103,9 @@ WORDS = [
      "a was put before x. When it arrived at replica 0 in line 9, x was already deleted there by 0.2 (line 8)|"
      "b was put behind x. When it arrived at replica 0 in line 10, x was already deleted there by 0.2 (line 8)|"
      "x arrived at replica 1 in line 4, x at replica 2 in line 5, a at replica 0 in line 9, b at replica 0 in line 10|"
-     "Look at positions beside deleted elements: any two of 2.1, 0.3 and 1.1 fit together, but perhaps an insert lost its place "
+     "Look at positions beside deleted elements: any two of 2.1, 0.3 and 1.1 fit together, all three don't; perhaps an insert lost its place "
      "because its neighbour was deleted elsewhere. The lines above say which elements each response no longer has.|"
-     "If the list is sorted by position identifiers, look at those of x, b and a: are two equal, does one differ between replicas, or are numbers "
+     "If the list is sorted by position identifiers, look at those of x, b and a: are two of them equal, does one differ between replicas, or are numbers "
      "compared as text?|"
      "An editor whose server orders all changes, as Jupiter's does, promises only the weak list specification, and up to line 11 that "
      "holds. To ask for that only, use --weak."
@@ -119,10 +119,22 @@ WORDS = [
      "If inserts find their place by a neighbour and replicas throw deleted elements away, look at inserts beside deleted elements: the lines above name an insert that arrived where its "
      "neighbour had been deleted. Without that neighbour nothing says where the insert belongs.|"
      "Look at where a replica places an incoming insert: replica 0 had [c] already when it inserted [d] (0.3, line 9), and so fixed the "
-     "order of the two; yet two responses differ about it. Often the clock that decides between inserts does not advance when changes arrive, or the neighbour is not found. If the editor "
-     "sends positions, the position of d was perhaps not adjusted for the delete of b by 1.2 (line 8), which replica 1 knew and the author of d did not.|"
+     "order of the two; yet two responses differ about it. Often the clock that decides between inserts does not advance when changes arrive, or the neighbour is not found.|"
      "If the list is sorted by position identifiers, print those of b, d and c at line 9. If they do not rise in this order, look at how "
-     "the one of d was made; if they do, at how identifiers are compared (numbers must not be compared as text)." + stop(10, "replica 1 applies 0.3", 6)),
+     "the one of d was made; if they do, at how identifiers are compared (numbers must not be compared as text).|If the editor "
+     "sends positions, the position of d was perhaps not adjusted for the delete of b by 1.2 (line 8), which replica 1 knew and the author of d did not." + stop(10, "replica 1 applies 0.3", 6)),
+    ("an insert between two that were put together", 2, "0 ins a 0 : a|0 ins b 1 : a b|1 ins c 0 : c|1 recv 0 2|1 read : a c b|0 recv 1 1|0 read : a b c",
+     "[c] before [b]: line 7, 1.2: replica 1 read the list, answered a [c] [b]|Where to look|"
+     "1.2 (line 7) shows [c] between [a] and [b], which was put directly behind [a]; the author of [c] knew neither. If inserts find their place by a "
+     "neighbour, look at how the place of [c] is found there: what passes [a] must also pass all that was put behind it.|"
+     "Look at the order of concurrent inserts: b and c were inserted without knowing of each other, and were shown in two different orders. Use a rule that "
+     "gives the same order everywhere (such as the replicas' numbers), and not the order of arrival."),
+    ("an insert behind what the other author did not know, which is deleted", 2, "0 ins a 0 : a|0 ins b 1 : a b|0 del a : b|1 ins c 0 : c|1 recv 0 3|"
+     "1 read : c b|0 recv 1 1|0 read : b c", "Where to look|"
+     "Look at the order of concurrent inserts: b and c were inserted without knowing of each other, and were shown in two different orders. Use a rule that "
+     "gives the same order everywhere (such as the replicas' numbers), and not the order of arrival.|"
+     "[b] was put directly behind [a], which the author of [c] did not know. If inserts find their place by a neighbour, look at how the place of [c] is "
+     "found: what passes [a] must also pass all that was put behind it."),
     ("an insert between two that are deleted by others", 3, "0 ins a 0 : a|0 ins b 1 : a b|1 recv 0 2|2 recv 0 2|2 ins c 1 : a c b|1 del a : b|"
      "0 del b : a|1 recv 0 3|1 read :|1 ins d 0 : d|1 recv 2 1|1 read : c d|2 recv 1 3|2 read : d c",
      "[d] before [c]: line 16 of the trace, 2.2: replica 2 read the list, answered [d] [c]|"
@@ -132,7 +144,7 @@ WORDS = [
     ("a session that goes on", 2, f"{BESIDE_DELETED}|0 recv 1 2|0 read : d c|1 read : c d",
      "When it went wrong|line 11 of the trace, 1.3: replica 1 read the list. Up to line 10 the session is accepted; line 11 leads to `refused 2`|"
      "before it: replica 1's 1.2 (line 8) fits; since then it received 0.3 (line 10)|"
-     "in the end replicas 0 and 1 count as having every change, and show the same elements in different orders||"
+     "by the receipts, replicas 0 and 1 have every change in the end, and show the same elements in different orders||"
      "What they show: a circle, which no order allows|"
      "[d] before [c]: line 9, 0.3: replica 0 inserted d at position 1, answered b [d] [c]|"
      "[c] before [d]: line 11, 1.3: replica 1 read the list, answered [c] [d]||The elements|"
@@ -141,14 +153,14 @@ WORDS = [
     ("a session that goes on, with one list in the end", 2, f"{BESIDE_DELETED}|0 recv 1 2|0 read : c d",
      "When it went wrong|line 11 of the trace, 1.3: replica 1 read the list. Up to line 10 the session is accepted; line 11 leads to `refused 2`|"
      "before it: replica 1's 1.2 (line 8) fits; since then it received 0.3 (line 10)|"
-     "in the end replicas 0 and 1 count as having every change, and show the same list||Where to look" + stop(10, "replica 1 applies 0.3", 6)),
+     "by the receipts, replicas 0 and 1 have every change in the end, and show the same list||Where to look" + stop(10, "replica 1 applies 0.3", 6)),
     ("a beginning that shows something else", 3, f"{THREE_WAY}|1 recv 0 2|1 recv 2 1|1 read : a b",
      "refused 3: three responses can't be right together. Any two of them can. This is the verdict on the first 11 lines; the "
      "whole trace gets `refused 2` (see below).||"
      "When it went wrong|line 11 of the trace, 0.3: replica 0 read the list. Up to line 10 the session is accepted; line 11 leads to "
      "`refused 3`|"
      "before it: replica 0's 0.2 (line 8) fits; since then it received 1.1 (line 9), 2.1 (line 10)|"
-     "in the end replicas 0 and 1 count as having every change, and show the same elements in different orders||"
+     "by the receipts, replicas 0 and 1 have every change in the end, and show the same elements in different orders||"
      "What they show: a circle, which no order allows|"
      "[x] before [b]: line 7, 2.1: replica 2 inserted b at position 1, answered [x] [b]|"
      "[b] before [a]: line 11, 0.3: replica 0 read the list, answered [b] [a]|"
@@ -156,13 +168,13 @@ WORDS = [
      "x: inserted by 0.1 (line 3), deleted by 0.2 (line 8)|at 0.3 (line 11), x was deleted already, by 0.2 (line 8)|"
      "x arrived at replica 1 in line 4, x at replica 2 in line 5, a at replica 0 in line 9, b at replica 0 in line 10||"
      "Where to look|"
-     "Look at positions beside deleted elements: any two of 2.1, 0.3 and 1.1 fit together, but perhaps an insert lost its place "
+     "Look at positions beside deleted elements: any two of 2.1, 0.3 and 1.1 fit together, all three don't; perhaps an insert lost its place "
      "because its neighbour was deleted elsewhere. The lines above say which elements each response no longer has.|"
      "For the verdict on the whole trace (below): if inserts find their place by a neighbour and replicas throw deleted elements away, look at inserts beside deleted elements: the lines above name an insert that arrived "
      "where its neighbour had been deleted. Without that neighbour nothing says where the insert belongs.|"
      "For the verdict on the whole trace (below): look at the order of concurrent inserts: a and b were inserted without knowing of each other, and were shown in two "
      "different orders. Use a rule that gives the same order everywhere (such as the replicas' numbers), and not the order of "
-     "arrival. If the editor sends positions, the position of b was perhaps not adjusted for the delete of x by 0.2 (line 8), which replica 1 "
+     "arrival.|For the verdict on the whole trace (below): if the editor sends positions, the position of b was perhaps not adjusted for the delete of x by 0.2 (line 8), which replica 1 "
      "knew and the author of b did not; or the position of the delete was not adjusted for an insert that its author had not seen.|"
      "" + stop(10, "replica 0 applies 2.1", 9, 5, 4) + "||What the whole trace shows: a circle, which no order allows|"
      "[a] before [b]: line 14, 1.2: replica 1 read the list, answered [a] [b]|"
@@ -184,7 +196,7 @@ WORDS = [
      "[b] before [c]: line 9, 1.2: replica 1 read the list, answered [b] [c]|"
      "[c] before [a]: line 11, 2.2: replica 2 read the list, answered [c] [a]|"
      "b arrived at replica 0 in line 6, c at replica 1 in line 8, a at replica 2 in line 10|"
-     "Look at how a replica orders elements when it has only some of them: any two of 0.2, 1.2 and 2.2 fit together. Where one of "
+     "Look at how a replica orders elements when it has only some of them: any two of 0.2, 1.2 and 2.2 fit together, all three don't. Where one of "
      "these responses lacks an element, that was not deleted there: it had not arrived yet. Often the rule that orders concurrent inserts is not the same everywhere."
      + stop(10, "replica 2 applies 0.1", 8, 6)),
     ("an element that came along with what had seen it", 3, "0 ins a 0 : a|1 recv 0 1|1 read : a|1 ins b 1 : a b|2 recv 1 1|2 recv 1 2|"
@@ -244,6 +256,9 @@ WORDS = [
      "[q] no operation of this trace inserts it"),
     ("a name twice", 1, "0 ins a 0 : a|0 read : a a", "answered: [a] [a]|it should hold, in any order: a|Named more than once|"
      "[a] inserted by 0.1 (line 3), an earlier operation of replica 0"),
+    ("a delete that hits what is deleted already", 2, "0 ins a 0 : a|0 ins b 1 : a b|1 recv 0 2|1 read : a b|1 del a : b|0 del b : a|1 recv 0 3|1 read : b",
+     "It looks as if 0.3 (line 8) was not applied at replica 1: lost, or held back, or `received` is called before the change is applied. Or it deleted "
+     "another element, one that was already deleted there: look at how a replica that applies a delete finds the element (is the whole id compared?)."),
     ("a change that is applied twice", 2, "0 ins a 0 : a|0 ins b 1 : a b|1 recv 0 2|1 read : a b a", "Named more than once|"
      "[a] inserted by 0.1 (line 3), which counts as arrived at replica 1 with 0.2 in line 5 (1 recv 0 2)||Where to look|"
      "It looks as if 0.1 (line 3) was applied twice at replica 1: look at what the editor does with a change that arrives a second time, and at "
@@ -343,11 +358,11 @@ WORDS = [
     ("a delete that meets an insert and a delete which did not know each other", 2, "0 ins a 0 : a|0 ins b 1 : a b|0 ins c 2 : a b c|1 recv 0 3|"
      "1 read : a b c|0 del a : b c|1 ins d 3 : a b c d|0 recv 1 2|0 read : b c d|1 del c : a b d|0 recv 1 3|0 read : b c",
      "It looks as if 1.3 (line 12), applied at replica 0, deleted d instead of c: look at how a replica that applies a delete finds the element, and at whether the recorder "
-     "names the element that was deleted. If the editor sends positions, the position of 1.3 was perhaps not adjusted for the delete of a by 0.4 (line 8), which the author of 1.3 had not seen; or an earlier insert was not adjusted for a delete that its author had not seen." + stop(13, "replica 0 applies 1.3")),
+     "names the element that was deleted.|If the editor sends positions, the position of 1.3 was perhaps not adjusted for the delete of a by 0.4 (line 8), which the author of 1.3 had not seen; or an earlier insert was not adjusted for a delete that its author had not seen." + stop(13, "replica 0 applies 1.3")),
     ("a delete that takes what is deleted later", 2, "0 ins a 0 : a|0 ins b 1 : a b|1 recv 0 2|1 read : a b|1 del a : b|0 ins c 0 : c a b|0 recv 1 2|"
      "0 read : a b|0 del c : a b",
      "It looks as if 1.2 (line 7), applied at replica 0, deleted c instead of a: look at how a replica that applies a delete finds the element, and at whether the recorder "
-     "names the element that was deleted. If the editor sends positions, the position of 1.2 was perhaps not adjusted for the insert of c by 0.3 (line 8), which the author of 1.2 had not seen." + stop(9, "replica 0 applies 1.2")),
+     "names the element that was deleted.|If the editor sends positions, the position of 1.2 was perhaps not adjusted for the insert of c by 0.3 (line 8), which the author of 1.2 had not seen." + stop(9, "replica 0 applies 1.2")),
     ("an insert that another one at its place has shifted", 2, "0 ins b 0 : b|0 ins c 0 : c b|1 ins a 0 : a|1 recv 0 1|1 read : a b|1 recv 0 2|"
      "1 read : a b c",
      "Look at where a replica places an incoming insert: replica 0 had [b] already when it inserted [c] (0.2, line 4), and so fixed the order "
@@ -379,16 +394,16 @@ WORDS = [
     ("a delete that meets an insert which did not know it", 2, "0 ins a 0 : a|0 ins b 1 : a b|0 ins c 2 : a b c|1 recv 0 3|1 read : a b c|1 del a : b c|"
      "0 ins d 2 : a b d c|1 recv 0 4|1 read : b c d",
      "Look at where a replica places an incoming insert: replica 0 had [c] already when it inserted [d] (0.4, line 9), and so fixed the "
-     "order of the two; yet two responses differ about it. Often the clock that decides between inserts does not advance when changes arrive, or the neighbour is not found. If the editor "
+     "order of the two; yet two responses differ about it. Often the clock that decides between inserts does not advance when changes arrive, or the neighbour is not found.|If the editor "
      "sends positions, the position of d was perhaps not adjusted for the delete of a by 1.2 (line 8), which replica 1 knew and the author of d did not." + stop(10, "replica 1 applies 0.4", 6)),
     ("a delete that becomes nothing beside an insert that its author did not know", 2, "0 ins a 0 : a|1 recv 0 1|1 read : a|0 del a :|"
      "1 ins b 0 : b a|1 recv 0 2|1 read : b a",
-     "It looks as if 0.2 (line 6) was not applied at replica 1: lost, or held back, or `received` is called before the change is applied. "
-     "Or it was applied in the wrong place: if the editor sends positions, the position of 0.2 was perhaps not adjusted for the insert of b by 1.2 (line 7), which the author of 0.2 "
+     "It looks as if 0.2 (line 6) was not applied at replica 1: lost, or held back, or `received` is called before the change is applied.|"
+     "If the editor sends positions, the position of 0.2 was perhaps not adjusted for the insert of b by 1.2 (line 7), which the author of 0.2 "
      "had not seen."),
     ("a delete of one of two that were inserted at one place", 2, "0 ins a 0 : a|0 del a :|1 ins b 0 : b|1 recv 0 1|1 read : a b|1 recv 0 2|1 read : a",
      "It looks as if 0.2 (line 4), applied at replica 1, deleted b instead of a: look at how a replica that applies a delete finds the element, and at whether the recorder "
-     "names the element that was deleted. If the editor sends positions, the position of 0.2 was perhaps not adjusted for the insert of b by 1.1 (line 5), which the author of 0.2 had not seen. b was inserted at the same place as a, and neither author had seen the other's insert. Look also at which of them comes first."),
+     "names the element that was deleted.|If the editor sends positions, the position of 0.2 was perhaps not adjusted for the insert of b by 1.1 (line 5), which the author of 0.2 had not seen. b was inserted at the same place as a, and neither author had seen the other's insert. Look also at which of them comes first."),
     ("doubled", 2, "0 ins a 0 : a|0 ins b 1 : a b|1 ins b 0 : b",
      "doubled: 0.2 and 1.1 insert the same name, b. An element is known by its name, so nothing else was judged.|"
      "line 4 of the trace, 0.2: replica 0 inserted b at position 1|line 5, 1.1: replica 1 inserted b at position 0||"

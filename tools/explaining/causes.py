@@ -6,7 +6,7 @@ from __future__ import annotations
 from typing import NamedTuple
 
 from .evidence import Evidence
-from .positions import are_put_at_once, elements_before, met, met_before, met_inserts, put_there_at_once
+from .positions import are_put_at_once, elements_before, met, met_before, met_inserts, neighbours, put_there_at_once
 from .programs import GUIDE
 from .recordings import Operation, place_asked
 from .telling import at, counted, joined, listed
@@ -27,7 +27,9 @@ WAITING = "; {others}, which came later, perhaps wait{s} for {it}"
 NO_PLACE = (" Perhaps {insert} finds no place there for {element}: its neighbour {neighbours}. An editor that throws deleted elements away too "
             "early loses such an insert or holds it back for ever.")
 NOT_APPLIED = ("It looks as if {changes} {were} not applied at replica {replica}: lost, or held back, or `received` is called before the "
-               "change is applied.{moved}")
+               "change is applied.{other}")
+OTHER_DELETE = (" Or it deleted another element, one that was already deleted there: look at how a replica that applies a delete finds the element (is the "
+                "whole id compared?).")
 BROUGHT = ("No receipt at replica {replica} names {changes}: {they} as arrived with {brought}, in line {line}. If you record a receipt for each change, "
            "{names} {were} lost, or {brought} overtook {them}.")
 LOST = ("Look first at whether {changes} {were} lost on {their} way to replica {replica}, or overtaken: no receipt there names {them}, though {others}. "
@@ -37,14 +39,14 @@ ELSEWHERE_ONE = {True: "at another replica it has one", False: "at other replica
 NO_RECEIPT = ("It looks as if {changes} {were} applied at replica {replica} without a receipt: the call of `received` is missing, comes "
               "too late, or names another operation.")
 WRONG_DELETE = ("It looks as if {delete}, applied at replica {replica}, deleted {missing} instead of {surplus}: look at how a replica that applies a "
-                "delete finds the element, and at whether the recorder names the element that was deleted.{moved}")
-MOVED_DELETE = (" If the editor sends positions, the position of {delete} was perhaps not adjusted for {changes}, which the author of {delete} had "
+                "delete finds the element, and at whether the recorder names the element that was deleted.")
+MOVED_DELETE = ("If the editor sends positions, the position of {delete} was perhaps not adjusted for {changes}, which the author of {delete} had "
                 "not seen{back}.{tie}")
 MOVED_BEFORE = "; or an earlier insert was not adjusted for a delete that its author had not seen"
 PUT_AT_ONCE = (" {others} {were} inserted at the same place as {element}, and neither author had seen the other's insert. Look also at which "
                "of them comes first.")
 SECOND_DELETE = ("When {again} was applied at replica {replica}, its element {element} was already deleted there, by {first}: look at what the editor does "
-                 "with a delete whose element is gone. The editor may have deleted {missing} instead.{moved}")
+                 "with a delete whose element is gone. The editor may have deleted {missing} instead.")
 CAUSAL = ("Apply an operation only after everything that its author had seen, or send all of that together with it. If the editor itself holds operations "
           f"back, write the receipt of each only when it is applied. {GUIDE} shows what to record in each case.")
 OVERTAKEN = "Look at the order in which operations arrive: {name} was overtaken, as told above. " + CAUSAL
@@ -56,7 +58,7 @@ LOST_NEIGHBOUR = ("If inserts find their place by a neighbour, look at inserts b
 NUMBERS_OF_INSERTS = " Often the clock that decides between inserts does not advance when changes arrive, or the neighbour is not found."
 IDENTIFIERS = ("If the list is sorted by position identifiers, print those of {names} at line {line}. If they do not rise in this order, look at how the "
                "one of {element} was made; if they do, at how identifiers are compared (numbers must not be compared as text).")
-SORTED = ("If the list is sorted by position identifiers, look at those of {names}: are two equal, does one differ between "
+SORTED = ("If the list is sorted by position identifiers, look at those of {names}: are {two} equal, does one differ between "
           "replicas, or are numbers compared as text?")
 MAPPING = ("Look at how the position that a user sees is mapped to a place in the editor's own list{deleted}; and at whether the "
            "recorder writes the position that was asked for.")
@@ -65,16 +67,20 @@ NUMBERS = ("If the editor decides by numbers (a clock, ids) which of two inserts
            "the clock does not advance when changes arrive; replicas are compared before clocks; ids are compared as text, so 10 comes before 9.")
 BESIDE_DELETED = ("If inserts find their place by a neighbour and replicas throw deleted elements away, look at inserts beside deleted elements: the "
                   "lines above name {which}. Without that neighbour nothing says where the insert belongs.")
-SEVERAL_DELETED = ("Look at positions beside deleted elements: any {fewer} of {named} fit together, but perhaps an insert lost its place "
+SEVERAL_DELETED = ("Look at positions beside deleted elements: any {fewer} of {named} fit together, all {k} don't; perhaps an insert lost its place "
                    "because its neighbour was deleted elsewhere. The lines above say which elements each response no longer has.")
-SEVERAL_APART = ("Look at how a replica orders elements when it has only some of them: any {fewer} of {named} fit together. Where one "
+SEVERAL_APART = ("Look at how a replica orders elements when it has only some of them: any {fewer} of {named} fit together, all {k} don't. Where one "
                  "of these responses lacks an element, that was not deleted there: it had not arrived yet. Often the rule that orders concurrent "
                  "inserts is not the same everywhere.")
 WEAK_ALONE_HOLDS = ("An editor whose server orders all changes, as Jupiter's does, promises only the weak list specification, and up to line {line} "
                     "that holds. To ask for that only, use --weak.")
+BETWEEN = ("{operation} shows [{other}] between [{behind}] and [{element}], which was put directly behind [{behind}]; the author of [{other}] knew neither. If inserts "
+           "find their place by a neighbour, look at how the place of [{other}] is found there: what passes [{behind}] must also pass all that was put behind it.")
+BEHIND_UNKNOWN = ("[{element}] was put directly behind [{behind}], which the author of [{other}] did not know. If inserts find their place by a neighbour, look at how "
+                  "the place of [{other}] is found: what passes [{behind}] must also pass all that was put behind it.")
 CONCURRENT = ("Look at the order of concurrent inserts: {first} and {then} were inserted without knowing of each other, and were shown "
               "in two different orders. Use a rule that gives the same order everywhere (such as the replicas' numbers), and not the order of "
-              "arrival.{moved}")
+              "arrival.")
 POSITIONS = ("Look at how a position is adjusted where a change arrives: the position of {element} was perhaps not adjusted for {changes}, which "
              "replica {replica} knew and the author of {element} did not{back}. Or look at the order of concurrent inserts: {first} and {then} were inserted without knowing of each "
              "other, and were shown in two different orders. Use a rule that gives the same order everywhere (such as the replicas' numbers).")
@@ -82,8 +88,8 @@ EITHER = ("Look at the order of concurrent inserts: {first} and {then} were inse
           "different orders. Either the rule that orders them is not the same everywhere; or the position of {element} was not adjusted for {changes}, "
           "which replica {replica} knew and the author of {element} did not{back}.")
 SEEN = ("Look at where a replica places an incoming insert: replica {author} had [{old}] already when it inserted [{new}] ({later}, line {line}), and so "
-        "fixed the order of the two; yet two responses differ about it.{numbers}{moved}")
-MOVED_INSERT = (" If the editor sends positions, the position of {element} was perhaps not adjusted for {changes}, which replica {replica} "
+        "fixed the order of the two; yet two responses differ about it.{numbers}")
+MOVED_INSERT = ("If the editor sends positions, the position of {element} was perhaps not adjusted for {changes}, which replica {replica} "
                 "knew and the author of {element} did not{back}.")
 MOVED_BACK = {True: "; or the position of the delete was not adjusted for an insert that its author had not seen",
               False: "; or the positions of the deletes were not adjusted for inserts that their authors had not seen"}
@@ -142,7 +148,7 @@ def undelivered(evidence: Evidence) -> Cause:
     others = [change for change in changes if change not in first]
     waiting = WAITING.format(others=changes_told(others)["changes"], s="" if others[1:] else "s", it="these" if first[1:] else "it") if others else ""
     told = UNDELIVERED.format(lines=written, replica=replica, waiting=waiting, them="them" if first[1:] else "it", **changes_told(first))
-    gone = evidence.deleted_beside(first[0], replica)
+    gone = [delete for delete in evidence.deleted_beside(first[0], replica) if delete not in changes]
     if not gone:
         return Cause("not delivered", told)
     neighbours = joined([f"{delete.element} was already deleted there by {at(delete)}" for delete in gone])
@@ -193,24 +199,29 @@ def unlike_receipts(evidence: Evidence) -> list:
     if left_out and added:
         return []
     replica = evidence.operations[0].replica
-    moved = moved_delete(evidence, left_out[0]).lstrip() if len(left_out) == 1 else ""
-    moved = f" {otherwise('Or it was applied in the wrong place', moved)}" if moved else ""
-    return [Cause(name, look.format(replica=replica, moved=moved, **changes_told(changes)))
-            for name, look, changes in (("not applied", NOT_APPLIED, left_out), ("no receipt", NO_RECEIPT, added)) if changes]
+    other = OTHER_DELETE if len(left_out) == 1 and left_out[0].kind == "del" and was_deleted_before(evidence, left_out[0]) else ""
+    return [Cause(name, look.format(replica=replica, other=other, **changes_told(changes)))
+            for name, look, changes in (("not applied", NOT_APPLIED, left_out), ("no receipt", NO_RECEIPT, added)) if changes] + [
+                one for change in left_out[:1] if len(left_out) == 1 for one in moved_delete(evidence, change)]
 
 
-def moved_delete(evidence: Evidence, delete: Operation) -> str:
+def was_deleted_before(evidence: Evidence, delete: Operation) -> bool:
+    """Whether some other element had been deleted at the replica when this delete arrived there: a delete of that one changes nothing."""
+    operation = evidence.operations[0]
+    others = [one for deletes in evidence.recording.deletes.values() for one in deletes if one.element != delete.element]
+    return any(operation.has_seen(one) for one in others)
+
+
+def moved_delete(evidence: Evidence, delete: Operation) -> list:
     """Over which changes a delete has to be moved that arrived for wrong contents; and, of its element, over which insert that one was."""
     receipt = evidence.recording.arrival(delete, evidence.operations[0].replica)
-    if delete.kind != "del" or receipt is None:
-        return ""
-    unknown = met(evidence.recording, delete, receipt)
+    unknown = met(evidence.recording, delete, receipt) if delete.kind == "del" and receipt is not None else []
     if not unknown:
-        return ""
+        return []
     others = [other.element for insert in evidence.recording.inserts.get(delete.element, [])[:1]
               for other in put_there_at_once(evidence.recording, insert, receipt)]
     back = MOVED_BEFORE if met_before(evidence.recording, delete, receipt) else ""
-    return MOVED_DELETE.format(delete=delete.name, changes=named(unknown), back=back, tie=at_once(delete.element, others) if others else "")
+    return [Cause("positions", MOVED_DELETE.format(delete=delete.name, changes=named(unknown), back=back, tie=at_once(delete.element, others) if others else ""))]
 
 
 def changes_told(changes: list) -> dict:
@@ -234,14 +245,15 @@ def wrong_delete(evidence: Evidence, operation: Operation) -> list:
     is_deleted = earlier and not all(evidence.otherwise)  # by what no receipt brings, and that alone tells it
     if is_deleted or not news or is_new or not any(map(operation.has_seen, inserts)):
         return []
-    moved = moved_delete(evidence, news[0])
-    return [Cause("wrong delete", WRONG_DELETE.format(delete=at(news[0]), replica=operation.replica, missing=missing, surplus=surplus, moved=moved))]
+    return [Cause("wrong delete", WRONG_DELETE.format(delete=at(news[0]), replica=operation.replica, missing=missing, surplus=surplus)),
+            *moved_delete(evidence, news[0])]
 
 
 def second_delete(evidence: Evidence) -> list:
+    found = evidence.second_deletes[:1]
     return [Cause("second delete", SECOND_DELETE.format(again=at(again), element=again.element, first=at(first), replica=evidence.operations[0].replica,
-                                                        missing=listed(evidence.lost, MOST_TOLD), moved=moved_delete(evidence, again)))
-            for again, first in evidence.second_deletes[:1]]
+                                                        missing=listed(evidence.lost, MOST_TOLD)))
+            for again, first in found] + [one for again, _ in found for one in moved_delete(evidence, again)]
 
 
 def overtaken(evidence: Evidence) -> list:
@@ -280,37 +292,60 @@ def identifiers(insert: Operation, before: list, behind: list) -> list:
     return [Cause("identifiers", IDENTIFIERS.format(names=names, line=insert.line, element=insert.element))]
 
 
+def came_between(evidence: Evidence) -> list:
+    """Of an element that a response shows between two that were put together elsewhere."""
+    if evidence.between is None:
+        return []
+    other, element, behind, operation = evidence.between
+    return [Cause("between", BETWEEN.format(operation=at(operation), other=other, element=element, behind=behind))]
+
+
+def behind_unknown(evidence: Evidence, first: Operation, then: Operation) -> list:
+    """Of two concurrent inserts one that was put directly behind what the other's author did not know, where no response shows more of that."""
+    for one, other in ((first, then), (then, first)) if evidence.between is None else ():
+        behind = neighbours(one)[0]
+        if behind in evidence.recording.inserts and not other.has_seen(evidence.recording.inserts[behind][0]):
+            return [Cause("behind unknown", BEHIND_UNKNOWN.format(element=one.element, behind=behind, other=other.element))]
+    return []
+
+
 def sorted_alike(evidence: Evidence) -> Cause:
     """Where an editor that sorts by position identifiers may order the elements of a refusal otherwise at another replica."""
     names = evidence.elements[:MOST_MET]
     more = evidence.report["k"] - len(names)
-    return Cause("identifiers", SORTED.format(names=joined(names + ([f"{more} more"] if more else []))))
+    return Cause("identifiers", SORTED.format(two="the two" if evidence.report["k"] == 2 else "two of them",
+                                                names=joined(names + ([f"{more} more"] if more else []))))
 
 
 def of_refusal(evidence: Evidence, weak: bool) -> list:
     """Concurrent inserts first; then inserts beside deleted elements, then two elements of which one's author had seen the other."""
     if evidence.report["k"] > 2:
-        return [*lost(evidence), of_several(evidence), sorted_alike(evidence), Cause(ALONE, WEAK_ALONE_HOLDS.format(line=evidence.last_line))]
+        return [*lost(evidence), *came_between(evidence), of_several(evidence), sorted_alike(evidence), Cause(ALONE, WEAK_ALONE_HOLDS.format(line=evidence.last_line))]
     first, then = (evidence.recording.inserts[name][0] for name in evidence.elements)
     if not first.has_seen(then) and not then.has_seen(first):
         moved = moved_over(evidence)
         if weak and moved:
             told = (EITHER if are_put_at_once(first, then) else POSITIONS).format(first=first.element, then=then.element, **moved)
-            return [*lost(evidence), Cause("concurrent", told), *beside_deleted(evidence)]
-        told = CONCURRENT.format(first=first.element, then=then.element, moved=MOVED_INSERT.format(**moved) if moved else "")
-        causes = [Cause("concurrent", told), *beside_deleted(evidence)]
+            return [*lost(evidence), *came_between(evidence), Cause("concurrent", told), *beside_deleted(evidence)]
+        concurrent = [Cause("concurrent", CONCURRENT.format(first=first.element, then=then.element)), *behind_unknown(evidence, first, then)]
+        causes = [concurrent, beside_deleted(evidence)]
         is_deleted_first = evidence.lost_neighbours and not are_put_at_once(first, then)
-        return [*lost(evidence), *(causes[::-1] if is_deleted_first else causes), sorted_alike(evidence)]
+        return [*lost(evidence), *came_between(evidence), *sum(causes[::-1] if is_deleted_first else causes, []), sorted_alike(evidence), *moved_insert(moved)]
     later, old = (first, then) if first.has_seen(then) else (then, first)
     moved = moved_over(evidence)
-    told = SEEN.format(author=later.replica, later=later.name, line=later.line, new=later.element, old=old.element, numbers="" if weak and moved else NUMBERS_OF_INSERTS,
-                       moved=MOVED_INSERT.format(**moved) if moved else "")
+    told = SEEN.format(author=later.replica, later=later.name, line=later.line, new=later.element, old=old.element,
+                       numbers="" if weak and moved else NUMBERS_OF_INSERTS)
     told += put_meanwhile(evidence, later) or put_meanwhile(evidence, old)
     if weak and moved:
-        return [*lost(evidence), Cause("seen", told), *beside_deleted(evidence)]
+        return [*lost(evidence), Cause("seen", told), *moved_insert(moved), *beside_deleted(evidence)]
     place = later.response.index(later.element)
     sorted_by = identifiers(later, later.response[max(place - 1, 0):place], later.response[place + 1:place + 2])
-    return [*lost(evidence), *beside_deleted(evidence), Cause("seen", told), *sorted_by]
+    return [*lost(evidence), *beside_deleted(evidence), Cause("seen", told), *sorted_by, *moved_insert(moved)]
+
+
+def moved_insert(moved: dict) -> list:
+    """Of an editor that sends positions alone; one with ids passes this over."""
+    return [Cause("positions", MOVED_INSERT.format(**moved))] if moved else []
 
 
 def beside_deleted(evidence: Evidence) -> list:
@@ -325,8 +360,8 @@ def of_several(evidence: Evidence) -> Cause:
     are_some_gone = any(operation.has_seen(delete) for _, operation in evidence.steps for name in evidence.elements
                         for delete in evidence.recording.deletes.get(name, []))
     if evidence.lost_neighbours or are_some_gone:
-        return Cause("several, deleted", SEVERAL_DELETED.format(named=names, fewer=fewer) + put_at_once(evidence))
-    return Cause("several, apart", SEVERAL_APART.format(named=names, fewer=fewer))
+        return Cause("several, deleted", SEVERAL_DELETED.format(named=names, fewer=fewer, k=counted(evidence.report["k"])) + put_at_once(evidence))
+    return Cause("several, apart", SEVERAL_APART.format(named=names, fewer=fewer, k=counted(evidence.report["k"])))
 
 
 def put_at_once(evidence: Evidence) -> str:

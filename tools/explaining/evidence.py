@@ -4,6 +4,7 @@ The verdict is the program's. What is computed here must agree with it; where it
 from __future__ import annotations
 
 from collections import Counter
+from collections.abc import Iterator
 from functools import cached_property
 from typing import NamedTuple
 
@@ -116,6 +117,28 @@ class Evidence:
         """The steps of a refusal that are told, each with its operation: of a long cycle the first and the last ones."""
         steps = list(zip(self.report["steps"], self.operations))
         return steps if len(steps) <= MOST_STEPS else steps[:FIRST_STEPS] + steps[-LAST_STEPS:]
+
+    @cached_property
+    def between(self) -> tuple | None:
+        """Of two elements, one of which a refusal is about, the first that a response of it shows between the other and what that was put directly
+        behind; with this, and the operation. The first one's author knew neither, nor did theirs know it. Best is one where it is about both."""
+        found = [(other, name, behind, operation) for _, operation in self.steps for other, name, behind in self._between(operation)]
+        return next((one for one in found if one[0] in self.elements and one[1] in self.elements), found[0] if found else None)
+
+    def _between(self, operation: Operation) -> Iterator[tuple]:
+        shown, inserts = operation.response, self.recording.inserts
+        places = {name: place for place, name in enumerate(shown)}
+        for place, name in enumerate(shown):
+            insert = inserts[name][0]
+            at = insert.response.index(name) if name in insert.response else 0
+            behind = insert.response[at - 1] if at else ""
+            if behind not in inserts or places.get(behind, place) >= place - 1:
+                continue
+            passed, is_about = inserts[behind][0], name in self.elements
+            for other in shown[places[behind] + 1:place] if is_about else filter(self.elements.__contains__, shown[places[behind] + 1:place]):
+                late = inserts[other][0]
+                if not (late.has_seen(insert) or insert.has_seen(late) or late.has_seen(passed)):
+                    yield other, name, behind
 
     @property
     def steps_between(self) -> int:

@@ -146,6 +146,8 @@ def candidates(evidence: Evidence) -> list:
         gone += [delete for _, deletes in evidence.lost_neighbours for delete in deletes]
     gone += evidence.met[1][:MOST_MET]
     elements.update(delete.element for delete in gone)
+    between = evidence.between if evidence.report["verdict"] == "refused" else None
+    elements.update(between[2:3] if between else ())
     overtakings = [found for _, found in evidence.overtakings]
     misplaced = evidence.operations[0] if evidence.report["verdict"] == "position" else None
     overtaking = [receipt.seen for found in overtakings for receipt in filter(None, found)]

@@ -187,7 +187,7 @@ def in_the_end(recording: Recording) -> list:
     told = joined([str(operation.replica) for operation in whole])
     lists, sets = ({kind(operation.response) for operation in whole} for kind in (tuple, frozenset))
     shown = "the same list" if len(lists) == 1 else "the same elements in different orders" if len(sets) == 1 else "different lists"
-    return [f"in the end replicas {told} count as having every change, and show {shown}"]
+    return [f"by the receipts, replicas {told} have every change in the end, and show {shown}"]
 
 
 def life(recording: Recording, name: str) -> str:
