@@ -8,7 +8,8 @@ ghost use Rattle.command_line.specs.declared.task.Form.TheVariants.{Text};
 ghost use Rattle.rehearsal.specs.Ends.{HasEnded};
 ghost use Rattle.rehearsal.specs.Replays.{HasStalled};
 ghost use Rattle.engines.specs.Runs.{IsNoWorkers, IsReportOn, NamesFirstFault, Reports, ReportsFront};
-ghost use Rattle.engines.specs.OutOfMemory.{RunsOut};
+ghost use Rattle.engines.specs.Failures.{FailsToRead, FailsToWrite};
+ghost use Rattle.engines.specs.OutOfMemory.{RunsOut, WasReadWhole};
 ghost use Rattle.finder_cli.specs.Endings.{fault_of_rehearsal};
 ghost use Rattle.rehearsal.specs.Watched.{WasWatched};
 ghost use Rattle.finder_cli.specs.Sessions.{HasStalledOn, IsOfSession, IsWatched, IsWatchedOn};
@@ -66,6 +67,11 @@ pub fn live<H: Threads + Wait + Sync, R: Reader + Drop, W: Writer + Drop, G: Gat
     ensures workers { IsErrOf result RunFault.Workers ↔ IsNoWorkers workers }
     ensures unread { IsNoWorkers workers → source.new ≡ source.old }
     ensures read { IfErr result (λ fault. fault ≡ RunFault.Read → IsClosed source.new) }
+    // Could not read only where a read of this call failed, or the limit of reads was reached by it, or the
+    // source was closed from the start.
+    ensures failed_read { IfErr result (λ fault. fault ≡ RunFault.Read → FailsToRead source.old source.new) }
+    ensures closed_source { IsClosed source.old → (source.new ≡ source.old)
+        × (¬ IsNoWorkers workers → result ≡ Err RunFault.Read) }
     ensures memory { IfErr result (λ fault. fault ≡ RunFault.Memory → source.new.failed ≡ false) }
     // Out of memory only at a piece by which a line had come whose reading takes memory, or that comes in the
     // midst of a line; or behind the whole text.
@@ -75,6 +81,11 @@ pub fn live<H: Threads + Wait + Sync, R: Reader + Drop, W: Writer + Drop, G: Gat
         → IfSome source.old.bytes HasStalledOn) }
     ensures write { IfErr result (λ fault. fault ≡ RunFault.Write → (sink.new.failed ≡ true)
         × IfSome source.old.bytes (λ text. ReportsFront text Text sink.old.bytes sink.new.bytes)) }
+    // Could not write only behind the whole text, where a write of this call failed or took no byte, or the
+    // sink was closed from the start.
+    ensures failed_write { IfErr result (λ fault. fault ≡ RunFault.Write → FailsToWrite sink.old sink.new
+        × WasReadWhole source.old source.new) }
+    ensures closed_sink { sink.old.failed ≡ true → sink.new ≡ sink.old }
     ensures unwritten { IfErr result (λ fault. fault ≢ RunFault.Write → sink.new ≡ sink.old) }
 {
     if workers == 0 || workers > MOST_WORKERS {

@@ -1,5 +1,6 @@
-use Rattle.std.proofs.Common.{Err, Ok, inl, inr}
+use Rattle.std.proofs.Common.{Err, Ok, inl, inr, refl}
 use Rattle.command_line.specs.declared.task.Form.TheVariants.{Text}
+use Rattle.engines.proofs.Failures.{handed-read, ok-is-err}
 use Rattle.engines.proofs.Written.{handed-on, written-on, front-on, report-on}
 use Rattle.finder_cli.proofs.Sessions.{stalled-on, watched-on}
 use Rattle.engines.specs.Runs.{IsReportOf}
@@ -42,3 +43,16 @@ returns-in_err-judged-clause-stalled g c =
     handed-on _ c.from_residual-in_err-judged.result c.from_residual-in_err-judged.ensures.1
     (λ e. stalled-on c.args.source.now.bytes c.in_ok-recording.recording c.in_ok-recording.ensures.ok
     (c.in_err-judged.ensures.stalled e))
+
+pub returns-in_err-recording-clause-closed_source : goal.returns-in_err-recording-clause-closed_source
+returns-in_err-recording-clause-closed_source g c = λ shut.
+    let was = c.in_err-recording.ensures.closed_source shut in
+    (was.1, λ _. handed-read c.from_residual.result _ c.from_residual.ensures.1 refl was.0)
+
+pub returns-in-Ok-clause-closed_source : goal.returns-in-Ok-clause-closed_source
+returns-in-Ok-clause-closed_source g c =
+    λ shut. absurd (ok-is-err (c.in_ok-recording.ensures.closed_source shut).0)
+
+pub returns-in_err-judged-clause-closed_source : goal.returns-in_err-judged-clause-closed_source
+returns-in_err-judged-clause-closed_source g c =
+    λ shut. absurd (ok-is-err (c.in_ok-recording.ensures.closed_source shut).0)
