@@ -3,9 +3,10 @@
 
 A hundred runs on each vector and each example: the bytes, the status and the line on standard error must be those of
 `verdict`, and so they must in thirty runs on a long chain of receipts, in which each recorder waits for the one before it,
-beside as many busy loops as there are processors. Last comes a short chain in which each recorder waits for the one behind it,
-which is started later, with each request for memory refused in turn: the report, or that a thread or memory is missing. It
-needs a C compiler (`cc`)."""
+beside as many busy loops as there are processors. Then comes a short chain in which each recorder waits for the one behind it,
+which is started later, with each request for memory refused in turn: the report, or that a thread or memory is missing. Last,
+each thread of a session is refused in turn: by one worker these are the watcher and the recorders, and the program says that a
+thread is missing; by two workers the watcher has one more at each of its four turns. It needs a C compiler (`cc`)."""
 import os
 import subprocess
 import sys
@@ -14,10 +15,12 @@ from pathlib import Path
 
 ROOT = Path(__file__).resolve().parents[2]
 sys.path.insert(0, str(ROOT / "tests"))
-from memory.refused_memory import refuse_each, shim  # noqa: E402
-from shared.program import Tally, program_of, run  # noqa: E402
+from memory.refused_memory import THREAD, refuse_each, refused, shim  # noqa: E402
+from shared.program import Tally, library_of, program_of, run  # noqa: E402
 
 CYCLE = ROOT / "examples" / "libinfinity_three_way_cycle.trace"
+CYCLE_REPLICAS = 3
+TURNS = 4
 REPLICAS = 16
 MOST_ENTRIES = 16384
 TIMES = 100
@@ -63,6 +66,26 @@ def beside_busy_loops(tally: Tally, program: str, path: Path) -> None:
             loop.wait()
 
 
+def without_a_thread(tally: Tally, program: str, folder: str) -> None:
+    """The three-way cycle, with each thread of its session refused in turn."""
+    library = library_of(Path(__file__).with_name("refused_thread.c"), folder)
+
+    def starts(words: list) -> int:
+        """How many threads the command starts, at least: no run has one more."""
+        number = 0
+        while refused(library, folder, [program, *words, str(CYCLE)], number + 1)[1]:
+            number += 1
+        return number
+
+    session = 1 + CYCLE_REPLICAS
+    for number in range(1, session + 1):
+        ended = refused(library, folder, [program, "live", "--workers", "1", str(CYCLE)], number)
+        tally.check(f"live without its thread {number}", ended == (THREAD, True), ended)
+    tally.check("threads of a session by one worker", starts(["live", "--workers", "1"]) == session)
+    least = session + starts(["verdict", "--workers", "2"]) + TURNS
+    tally.check(f"a session by two workers starts {least} threads", starts(["live", "--workers", "2"]) >= least)
+
+
 def main() -> None:
     program = program_of(sys.argv)
     tally = Tally()
@@ -82,6 +105,7 @@ def main() -> None:
         print(f"{seen.runs} runs of the short chain with a request refused: {seen.memory} out of memory, "
               f"{seen.thread} without a thread")
         tally.check("some thread of the short chain could not be started", seen.thread > 0)
+        without_a_thread(tally, program, folder)
     tally.close()
 
 

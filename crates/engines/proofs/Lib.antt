@@ -1,3 +1,4 @@
+pub mod Failures
 pub mod JoinedTexts
 pub mod LineFaults
 pub mod PiecesRead

@@ -16,7 +16,7 @@ use Rattle.engines.specs.Certified.{IsCertificateFor, IsCertificateOn}
 use Rattle.engines.specs.Runs.{IsReportOf, IsReportOn}
 
 -- what is so of the fault that a call met is so of the one that is handed on
-pub handed-on : (R : RunFault → Type 0) {given : RunFault} (answer : Result Status RunFault)
+pub handed-on : {A : Type 0} (R : RunFault → Type 0) {given : RunFault} (answer : Result A RunFault)
     → IsErrAnd answer (λ fault. fault ≡ given) → R given → IfErr answer R
 handed-on R answer is so = let p = err_from_is_err_and answer is in rw (p.1, p.2) so
 

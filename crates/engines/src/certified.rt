@@ -1,13 +1,14 @@
 //! A trace in, the certificate of its verdict out.
 
-ghost use Rattle.std.specs.Prelude.{◌≡◌, ◌≢◌, true, false, IfOk, IfErr, IfSome, OnOk, IsErrOf};
+ghost use Rattle.std.specs.Prelude.{◌≡◌, ◌≢◌, true, false, Err, IfOk, IfErr, IfSome, OnOk, IsErrOf};
 ghost use Rattle.std.specs.Io.KnownBytes.{IsAtEnd};
 ghost use Rattle.byte_streams.specs.Streams.{IsClosed};
 ghost use Rattle.certificate.specs.ByRows.{joined};
 ghost use Rattle.verdict.specs.VerdictOf.{verdict_of};
 ghost use Rattle.engines.specs.Runs.{NamesFirstFault, IsOfRun, status_of};
 ghost use Rattle.engines.specs.Certified.{IsCertificateFor, Certifies, CertifiesFront};
-ghost use Rattle.engines.specs.OutOfMemory.{RunsOut};
+ghost use Rattle.engines.specs.OutOfMemory.{RunsOut, WasReadWhole};
+ghost use Rattle.engines.specs.Failures.{FailsToRead, FailsToWrite};
 
 use super::output::{status_of, write_texts};
 use super::status::{RunFault, Status};
@@ -37,6 +38,10 @@ pub fn run_cert<H: Threads + Sync, R: Reader + Drop, W: Writer + Drop>(
     ensures workers { ¬ IsErrOf result RunFault.Workers }
     ensures faults { IfErr result IsOfRun }
     ensures read { IfErr result (λ fault. fault ≡ RunFault.Read → IsClosed source.new) }
+    // Could not read only where a read of this call failed, or the limit of reads was reached by it, or the
+    // source was closed from the start.
+    ensures failed_read { IfErr result (λ fault. fault ≡ RunFault.Read → FailsToRead source.old source.new) }
+    ensures closed_source { IsClosed source.old → (result ≡ Err RunFault.Read) × (source.new ≡ source.old) }
     ensures memory { IfErr result (λ fault. fault ≡ RunFault.Memory → source.new.failed ≡ false) }
     // Out of memory only at a piece by which a line had come whose reading takes memory, or that comes in the
     // midst of a line; or behind the whole text.
@@ -44,6 +49,11 @@ pub fn run_cert<H: Threads + Sync, R: Reader + Drop, W: Writer + Drop>(
     ensures trace { IfErr result (λ fault. IfSome source.old.bytes (λ text. NamesFirstFault text fault)) }
     ensures write { IfErr result (λ fault. fault ≡ RunFault.Write → (sink.new.failed ≡ true)
         × IfSome source.old.bytes (λ text. CertifiesFront text sink.old.bytes sink.new.bytes)) }
+    // Could not write only behind the whole text, where a write of this call failed or took no byte, or the
+    // sink was closed from the start.
+    ensures failed_write { IfErr result (λ fault. fault ≡ RunFault.Write → FailsToWrite sink.old sink.new
+        × WasReadWhole source.old source.new) }
+    ensures closed_sink { sink.old.failed ≡ true → sink.new ≡ sink.old }
     ensures unwritten { IfErr result (λ fault. fault ≢ RunFault.Write → sink.new ≡ sink.old) }
 {
     let recording = recording_from(alloc, source)?;

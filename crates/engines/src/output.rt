@@ -1,6 +1,6 @@
 //! What the engines read and write by: a certificate's whole text, the verdict, an output and its status.
 
-ghost use Rattle.std.specs.Prelude.{◌≡◌, ◌≤◌, true, false, IfOk, IfErr};
+ghost use Rattle.std.specs.Prelude.{◌≡◌, ◌≤◌, true, false, Err, IfOk, IfErr, OnErr};
 ghost use Rattle.std.specs.Io.KnownBytes.{Appends, Consumes, IsAtEnd};
 ghost use Rattle.specification.specs.Verdict.{IsVerdict};
 ghost use Rattle.certificate.specs.ByRows.{joined};
@@ -8,6 +8,7 @@ ghost use Rattle.verdict.specs.VerdictOf.{verdict_of};
 ghost use Rattle.byte_streams.specs.Streams.{AppendsFront, IsClosed};
 ghost use Rattle.engines.specs.Runs.{IsOfReading, status_of};
 ghost use Rattle.engines.specs.OutOfMemory.{HasBytes};
+ghost use Rattle.engines.specs.Failures.{FailsToRead, FailsToWrite};
 
 use super::status::{RunFault, Status};
 use byte_streams::{ReadFault, Reader, Sink, Source, Writer};
@@ -32,6 +33,8 @@ pub fn whole_text<R: Reader + Drop>(
     ensures ok { IfOk result (λ text. Consumes source.old.bytes source.new.bytes text.items
         × IsAtEnd source.new.bytes × (source.new.failed ≡ false) × (source.new.ended ≡ true)) }
     ensures read { IfErr result (λ fault. fault ≡ RunFault.Read → IsClosed source.new) }
+    ensures failed_read { IfErr result (λ fault. fault ≡ RunFault.Read → FailsToRead source.old source.new) }
+    ensures closed_source { IsClosed source.old → (result ≡ Err RunFault.Read) × (source.new ≡ source.old) }
     ensures memory { IfErr result (λ fault. fault ≡ RunFault.Memory → source.new.failed ≡ false) }
     ensures some { IfErr result (λ fault. fault ≡ RunFault.Memory → HasBytes source.old source.new) }
     ensures reading { IfErr result IsOfReading }
@@ -52,6 +55,8 @@ pub fn write_output<W: Writer + Drop>(
         × Appends sink.old.bytes sink.new.bytes output.now.bytes.items) }
     ensures err { IfErr result (λ fault. (fault ≡ RunFault.Write) × (sink.new.failed ≡ true)
         × AppendsFront sink.old.bytes sink.new.bytes output.now.bytes.items) }
+    ensures failed_write { OnErr result (FailsToWrite sink.old sink.new) }
+    ensures closed_sink { sink.old.failed ≡ true → sink.new ≡ sink.old }
 {
     match sink.write_whole(&output.bytes) {
         Ok(()) => Ok(output.status),
@@ -69,6 +74,8 @@ pub fn write_texts<W: Writer + Drop>(
     ensures ok { IfOk result (λ s. (s ≡ status) × Appends sink.old.bytes sink.new.bytes (joined texts.now)) }
     ensures err { IfErr result (λ fault. (fault ≡ RunFault.Write) × (sink.new.failed ≡ true)
         × AppendsFront sink.old.bytes sink.new.bytes (joined texts.now)) }
+    ensures failed_write { OnErr result (FailsToWrite sink.old sink.new) }
+    ensures closed_sink { sink.old.failed ≡ true → sink.new ≡ sink.old }
 {
     for text in texts {
         match sink.write_whole(text) {

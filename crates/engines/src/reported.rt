@@ -1,12 +1,13 @@
 //! A run: a trace in, the report of its verdict out.
 
-ghost use Rattle.std.specs.Prelude.{◌≡◌, ◌≢◌, ◌↔◌, ◌≤◌, true, false, IfOk, IfErr, IfSome, OnOk, IsErrOf};
+ghost use Rattle.std.specs.Prelude.{◌≡◌, ◌≢◌, ◌↔◌, ◌≤◌, true, false, Err, IfOk, IfErr, IfSome, OnOk, IsErrOf};
 ghost use Rattle.std.specs.Io.KnownBytes.{IsAtEnd};
 ghost use Rattle.verdict.specs.VerdictOf.{verdict_of};
 ghost use Rattle.byte_streams.specs.Streams.{IsClosed};
 ghost use Rattle.engines.specs.Runs.{report_of, IsReportOn, Reports, ReportsFront, NamesFirstFault};
 ghost use Rattle.engines.specs.Runs.{IsOfRun, IsNoWorkers};
-ghost use Rattle.engines.specs.OutOfMemory.{RunsOut};
+ghost use Rattle.engines.specs.OutOfMemory.{RunsOut, WasReadWhole};
+ghost use Rattle.engines.specs.Failures.{FailsToRead, FailsToWrite};
 
 use super::output::{Output, status_of, verdict_on, write_output};
 use super::status::{RunFault, Status};
@@ -38,6 +39,11 @@ pub fn run<H: Threads + Sync, R: Reader + Drop, W: Writer + Drop>(
     ensures unread { IsNoWorkers workers → source.new ≡ source.old }
     ensures faults { IfErr result IsOfRun }
     ensures read { IfErr result (λ fault. fault ≡ RunFault.Read → IsClosed source.new) }
+    // Could not read only where a read of this call failed, or the limit of reads was reached by it, or the
+    // source was closed from the start.
+    ensures failed_read { IfErr result (λ fault. fault ≡ RunFault.Read → FailsToRead source.old source.new) }
+    ensures closed_source { IsClosed source.old → (source.new ≡ source.old)
+        × (¬ IsNoWorkers workers → result ≡ Err RunFault.Read) }
     ensures memory { IfErr result (λ fault. fault ≡ RunFault.Memory → source.new.failed ≡ false) }
     // Out of memory only at a piece by which a line had come whose reading takes memory, or that comes in the
     // midst of a line; or behind the whole text.
@@ -45,6 +51,11 @@ pub fn run<H: Threads + Sync, R: Reader + Drop, W: Writer + Drop>(
     ensures trace { IfErr result (λ fault. IfSome source.old.bytes (λ text. NamesFirstFault text fault)) }
     ensures write { IfErr result (λ fault. fault ≡ RunFault.Write → (sink.new.failed ≡ true)
         × IfSome source.old.bytes (λ text. ReportsFront text form sink.old.bytes sink.new.bytes)) }
+    // Could not write only behind the whole text, where a write of this call failed or took no byte, or the
+    // sink was closed from the start.
+    ensures failed_write { IfErr result (λ fault. fault ≡ RunFault.Write → FailsToWrite sink.old sink.new
+        × WasReadWhole source.old source.new) }
+    ensures closed_sink { sink.old.failed ≡ true → sink.new ≡ sink.old }
     ensures unwritten { IfErr result (λ fault. fault ≢ RunFault.Write → sink.new ≡ sink.old) }
 {
     if workers == 0 || workers > MOST_WORKERS {

@@ -1,7 +1,7 @@
 //! The recording that a source spells, read as it comes.
 
 ghost use Rattle.std.specs.Prelude.{◌≡◌, ◌≢◌, ◌++◌, true, false, IfOk, IfErr, IfSome, List, MatchOption};
-ghost use Rattle.std.specs.Prelude.{None};
+ghost use Rattle.std.specs.Prelude.{◌⊎◌, Err, None};
 ghost use Rattle.std.specs.Prelude.{OnOk, ℕ};
 ghost use Rattle.std.specs.Io.KnownBytes.{IsAtEnd};
 ghost use Rattle.specification.specs.TraceText.{Spells};
@@ -11,6 +11,7 @@ ghost use Rattle.byte_streams.specs.Streams.{IsClosed};
 ghost use Rattle.engines.specs.Runs.{IsOfReading, IsOfText, IsOfTrace, NamesFirstFault};
 ghost use Rattle.engines.specs.Certified.{IsRecordingOf};
 ghost use Rattle.engines.specs.OutOfMemory.{HasMemoryLine, RunsOutAtPiece};
+ghost use Rattle.engines.specs.Failures.{FailsToRead, HasReadOn};
 
 use super::status::RunFault;
 use byte_streams::{Reader, Source};
@@ -33,6 +34,11 @@ pub fn recording_from<R: Reader + Drop>(
     ensures trace { IfErr result (λ fault. IfSome source.old.bytes (λ text. NamesFirstFault text fault)) }
     ensures faults { IfErr result IsOfTrace }
     ensures read { IfErr result (λ fault. fault ≡ RunFault.Read → IsClosed source.new) }
+    // What was read before the text's fault, or before memory ran out.
+    ensures read_on { IfErr result (λ fault. fault ≢ RunFault.Read → (source.new.ended ≡ true)
+        ⊎ HasReadOn source.old source.new) }
+    ensures failed_read { IfErr result (λ fault. fault ≡ RunFault.Read → FailsToRead source.old source.new) }
+    ensures closed_source { IsClosed source.old → (result ≡ Err RunFault.Read) × (source.new ≡ source.old) }
     ensures memory { IfErr result (λ fault. fault ≡ RunFault.Memory → source.new.failed ≡ false) }
     // Out of memory only at a piece by which a line had come whose reading takes memory, or that comes in the
     // midst of a line.
@@ -64,6 +70,8 @@ pub fn recording_to_end<R: Reader + Drop>(
         × (source.new.ended ≡ true)) }
     ensures faults { IfErr result IsOfReading }
     ensures read { IfErr result (λ fault. fault ≡ RunFault.Read → IsClosed source.new) }
+    ensures failed_read { IfErr result (λ fault. fault ≡ RunFault.Read → FailsToRead source.old source.new) }
+    ensures closed_source { IsClosed source.old → (result ≡ Err RunFault.Read) × (source.new ≡ source.old) }
     ensures memory { IfErr result (λ fault. fault ≡ RunFault.Memory → source.new.failed ≡ false) }
     // Out of memory only at a piece by which a line had come whose reading takes memory, or that comes in the
     // midst of a line.
@@ -85,6 +93,7 @@ fn read_on<R: Reader + Drop>(source: &mut Source<R>) -> Result<(), RunFault>
     ensures end { OnOk result (IsAtEnd source.new.bytes × (source.new.failed ≡ false)
         × (source.new.ended ≡ true)) }
     ensures read { IfErr result (λ fault. (fault ≡ RunFault.Read) × IsClosed source.new) }
+    ensures failed_read { IfErr result (λ _. FailsToRead source.old source.new) }
 {
     let mut buffer = [0; PIECE];
     while let Some(n) = source.read(&mut buffer) {

@@ -1,6 +1,7 @@
 //! A trace and a certificate in, the checker's line out.
 
-ghost use Rattle.std.specs.Prelude.{◌≡◌, ◌≢◌, ◌⊎◌, true, false, IfOk, IfErr, IfSome, IsSome, List, OnOk, ℕ};
+ghost use Rattle.std.specs.Prelude.{◌≡◌, ◌≢◌, ◌⊎◌, true, false, Err, IfOk, IfErr, IfSome, IsErr, IsSome, List, OnOk};
+ghost use Rattle.std.specs.Prelude.{ℕ};
 ghost use Rattle.std.specs.Io.KnownBytes.{IsAtEnd};
 ghost use Rattle.byte_streams.specs.Streams.{IsClosed};
 ghost use Rattle.cert_check.specs.AnswerOf.{IsAnswer};
@@ -9,6 +10,7 @@ ghost use Rattle.engines.specs.Runs.{IsOfVerifying};
 ghost use Rattle.engines.specs.Certified.{IsLineOn, IsRecordingOf, Verifies, VerifiesFront};
 ghost use Rattle.engines.specs.Certified.{status_of_answer};
 ghost use Rattle.engines.specs.OutOfMemory.{RunsOutVerifying};
+ghost use Rattle.engines.specs.Failures.{FailsToRead, FailsToWrite};
 
 use super::answer_line::line_of;
 use super::output::{Output, whole_text, write_output};
@@ -44,6 +46,14 @@ pub fn run_verify<H: Threads + Sync, T: Reader + Drop, C: Reader + Drop, W: Writ
     // The certificate is read only after the whole trace.
     ensures read { IfErr result (λ fault. fault ≡ RunFault.Read → (IsClosed trace.new × (cert.new ≡ cert.old))
         ⊎ ((trace.new.ended ≡ true) × IsClosed cert.new)) }
+    // Could not read only where a read of this call failed, or the limit of reads was reached by it, or the
+    // source was closed from the start.
+    ensures failed_read { IfErr result (λ fault. fault ≡ RunFault.Read
+        → (FailsToRead trace.old trace.new × (cert.new ≡ cert.old))
+        ⊎ ((trace.new.ended ≡ true) × FailsToRead cert.old cert.new)) }
+    ensures closed_trace { IsClosed trace.old → (result ≡ Err RunFault.Read) × (trace.new ≡ trace.old)
+        × (cert.new ≡ cert.old) }
+    ensures closed_cert { IsClosed cert.old → IsErr result × (cert.new ≡ cert.old) }
     ensures memory { IfErr result (λ fault. fault ≡ RunFault.Memory → (trace.new.failed ≡ false)
         × ((cert.new ≡ cert.old) ⊎ (cert.new.failed ≡ false))) }
     // Out of memory only at a piece of the trace by which a line had come whose reading takes memory, or that
@@ -53,6 +63,11 @@ pub fn run_verify<H: Threads + Sync, T: Reader + Drop, C: Reader + Drop, W: Writ
     ensures write { IfErr result (λ fault. fault ≡ RunFault.Write → (sink.new.failed ≡ true)
         × IfSome trace.old.bytes (λ t. IfSome cert.old.bytes
         (λ c. VerifiesFront t c sink.old.bytes sink.new.bytes))) }
+    // Could not write only behind both texts, where a write of this call failed or took no byte, or the sink
+    // was closed from the start.
+    ensures failed_write { IfErr result (λ fault. fault ≡ RunFault.Write → FailsToWrite sink.old sink.new
+        × (trace.new.ended ≡ true) × (cert.new.ended ≡ true)) }
+    ensures closed_sink { sink.old.failed ≡ true → sink.new ≡ sink.old }
     ensures unwritten { IfErr result (λ fault. fault ≢ RunFault.Write → sink.new ≡ sink.old) }
 {
     let recording = recording_to_end(alloc, trace)?;

@@ -3,6 +3,7 @@ use Rattle.std.proofs.Common.{◌≡◌, ◌≢◌, ℕ, List, Option, Some, Non
 use Rattle.std.proofs.Common.{ap, refl, subst, sym}
 use Rattle.std.specs.Prelude.{IsErrOf}
 use Rattle.events.specs.History.{History}
+use Rattle.verdict.specs.declared.verdict.Verdict.{Verdict}
 use Rattle.specification.specs.TraceText.{Spells}
 use Rattle.rehearsal.specs.Ends.{HasEnded, IsEndOf}
 use Rattle.rehearsal.specs.Replays.{HasStalled}
@@ -13,7 +14,7 @@ use Rattle.engines.specs.declared.status.RunFault.{RunFault}
 use Rattle.engines.specs.declared.status.RunFault.TheVariants.{Memory, Read, Stalled, Thread, Trace}
 use Rattle.engines.specs.declared.status.RunFault.TheVariants.{Workers, Write}
 use Rattle.finder_cli.specs.Endings.{fault_of_rehearsal}
-use Rattle.finder_cli.specs.Sessions.{HasStalledOn, IsOfSession}
+use Rattle.finder_cli.specs.Sessions.{HasStalledOn, IsOfSession, IsWatched, IsWatchedOn}
 
 -- no fault of threads or of memory is one of a text
 pub names-none : (before : Option (List ℕ)) (fault : RunFault) → IsOfSession fault
@@ -65,3 +66,10 @@ pub stalled-on : (before : Option (List ℕ)) (h : History) → IfSome before (�
     → HasStalled h × HasEnded h rehearsal.Stalled → IfSome before HasStalledOn
 stalled-on None h spells stalled = tt
 stalled-on (Some t) h spells stalled = (h, spells, stalled.0, stalled.1)
+
+-- the verdicts of a watcher of the recording that a text spells
+pub watched-on : (before : Option (List ℕ)) (h : History) (verdicts : List Verdict)
+    → IfSome before (λ t. Spells t h) → IsWatched h verdicts
+    → IfSome before (λ t. IsWatchedOn t verdicts)
+watched-on None h verdicts spells watched = tt
+watched-on (Some t) h verdicts spells watched = (h, spells, watched)

@@ -1,9 +1,11 @@
--- How a session that replays a recording ends.
+-- How a session that replays a recording ends, and what its watcher judges.
 use Rattle.std.specs.Prelude.{ℕ, List}
-use Rattle.events.specs.History.{History}
+use Rattle.events.specs.History.{History, SameStreams}
 use Rattle.specification.specs.TraceText.{Spells}
+use Rattle.verdict.specs.declared.verdict.Verdict.{Verdict}
 use Rattle.rehearsal.specs.Ends.{HasEnded}
 use Rattle.rehearsal.specs.Replays.{HasStalled}
+use Rattle.rehearsal.specs.Watched.{WasWatched}
 use Rattle.rehearsal.specs.declared.fault.RehearsalFault.TheVariants as rehearsal
 use Rattle.engines.specs.declared.status.RunFault.{RunFault}
 use Rattle.engines.specs.declared.status.RunFault.TheVariants as run
@@ -12,6 +14,14 @@ use Rattle.engines.specs.declared.status.RunFault.TheVariants as run
 -- threads told
 abbrev pub HasStalledOn : List ℕ → Type 0
 HasStalledOn text = (h : History) × Spells text h × HasStalled h × HasEnded h rehearsal.Stalled
+
+-- a watcher came to these verdicts in a session that has the streams of the recording in the end
+abbrev pub IsWatched : History → List Verdict → Type 0
+IsWatched h verdicts = (closed : History) × SameStreams h closed × WasWatched closed verdicts
+
+-- the same, of the recording that the text spells
+abbrev pub IsWatchedOn : List ℕ → List Verdict → Type 0
+IsWatchedOn text verdicts = (h : History) × Spells text h × IsWatched h verdicts
 
 -- no fault but those of threads, and out of memory
 abbrev pub IsOfSession : RunFault → Type 0

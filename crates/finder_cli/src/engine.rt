@@ -36,7 +36,12 @@ impl Engine {
         match self {
             Engine::Verdict { workers, form } => run(rt, rt.alloc(), source, sink, workers, form),
             Engine::Cert => run_cert(rt, rt.alloc(), source, sink),
-            Engine::Live { workers } => live(rt, rt.alloc(), source, sink, workers, &NoGate),
+            Engine::Live { workers } => {
+                match live(rt, rt.alloc(), source, sink, workers, &NoGate) {
+                    Ok(lived) => Ok(lived.status),
+                    Err(fault) => Err(fault),
+                }
+            }
         }
     }
 }

@@ -12,6 +12,7 @@ mod watcher;
 
 pub use fault::RehearsalFault;
 pub use rehearsing::{Rehearsed, rehearse, rehearse_watched};
+pub use sessions::Verdicts;
 
 #[cfg(test)]
 mod tests;

@@ -1,4 +1,5 @@
-use Rattle.std.proofs.Common.{List, Vec, ℕ, Global, inl, inr, sym, subst, IfSome}
+use Rattle.std.proofs.Common.{List, Vec, ℕ, Global, inl, inr, refl, sym, subst, IfSome}
+use Rattle.engines.proofs.Failures.{handed-read, not-taken, ok-is-err}
 use Rattle.engines.proofs.Written.{handed-on, written-on, front-on, certificate-on}
 use Rattle.certificate.specs.ByRows.{joined}
 use Rattle.engines.specs.Certified.{IsCertificateFor, IsCertificateOn}
@@ -41,3 +42,22 @@ returns-in_err-certified-clause-place g c =
     let end = c.in_ok-recording.ensures.end in
     handed-on _ c.from_residual-in_err-certified.result c.from_residual-in_err-certified.ensures.1
     (λ _. inr (c.in_ok-recording.recording, end.2, end.0, c.in_ok-recording.ensures.ok))
+
+pub returns-clause-failed_write : goal.returns-clause-failed_write
+returns-clause-failed_write g c =
+    let end = c.in_ok-recording.ensures.end in
+    not-taken _ _ c.write_texts.result c.write_texts.ensures.failed_write
+    (c.in_ok-recording.recording, end.2, end.0, c.in_ok-recording.ensures.ok)
+
+pub returns-clause-closed_source : goal.returns-clause-closed_source
+returns-clause-closed_source g c =
+    λ shut. absurd (ok-is-err (c.in_ok-recording.ensures.closed_source shut).0)
+
+pub returns-in_err-certified-clause-closed_source : goal.returns-in_err-certified-clause-closed_source
+returns-in_err-certified-clause-closed_source g c =
+    λ shut. absurd (ok-is-err (c.in_ok-recording.ensures.closed_source shut).0)
+
+pub returns-in_err-recording-clause-closed_source : goal.returns-in_err-recording-clause-closed_source
+returns-in_err-recording-clause-closed_source g c = λ shut.
+    let was = c.in_err-recording.ensures.closed_source shut in
+    (handed-read c.from_residual.result _ c.from_residual.ensures.1 refl was.0, was.1)

@@ -1,4 +1,6 @@
 use Rattle.std.proofs.Common.{ℕ, List, IfSome, inl, inr, refl}
+use Rattle.std.proofs.lemmas.Result.{IfErr-weaker}
+use Rattle.engines.proofs.Failures.{handed-read, is-err, ok-is-err}
 use Rattle.engines.proofs.Written.{handed-on, of-both, written-of-both, front-of-both}
 use Rattle.engines.specs.Certified.{IsLineOn, IsRecordingOf}
 use Rattle.engines.proofs.verified.run_verify.Given.{Over}
@@ -45,3 +47,54 @@ pub returns-in_err-output-clause-place : goal.returns-in_err-output-clause-place
 returns-in_err-output-clause-place g c =
     handed-on _ c.from_residual-in_err-output.result c.from_residual-in_err-output.ensures.1
     (λ _. inr (c.in_ok-recording.ensures.end.2, inr c.in_ok-cert_text.ensures.ok.3))
+
+pub returns-clause-failed_write : goal.returns-clause-failed_write
+returns-clause-failed_write g c =
+    IfErr-weaker c.write_output.result _ _
+    (λ fault fails _. (fails, c.in_ok-recording.ensures.end.2, c.in_ok-cert_text.ensures.ok.3))
+    c.write_output.ensures.failed_write
+
+pub returns-in_err-recording-clause-failed_read : goal.returns-in_err-recording-clause-failed_read
+returns-in_err-recording-clause-failed_read g c =
+    handed-on _ c.from_residual.result c.from_residual.ensures.1
+    (λ read. inl (c.in_err-recording.ensures.failed_read read, refl))
+
+pub returns-in_err-cert_text-clause-failed_read : goal.returns-in_err-cert_text-clause-failed_read
+returns-in_err-cert_text-clause-failed_read g c =
+    handed-on _ c.from_residual-in_err-cert_text.result c.from_residual-in_err-cert_text.ensures.1
+    (λ read. inr (c.in_ok-recording.ensures.end.2, c.in_err-cert_text.ensures.failed_read read))
+
+pub returns-in_err-recording-clause-closed_trace : goal.returns-in_err-recording-clause-closed_trace
+returns-in_err-recording-clause-closed_trace g c = λ shut.
+    let was = c.in_err-recording.ensures.closed_source shut in
+    (handed-read c.from_residual.result _ c.from_residual.ensures.1 refl was.0, was.1, refl)
+
+pub returns-in_err-recording-clause-closed_cert : goal.returns-in_err-recording-clause-closed_cert
+returns-in_err-recording-clause-closed_cert g c =
+    λ _. (is-err _ c.from_residual.result c.from_residual.ensures.1, refl)
+
+pub returns-in_err-cert_text-clause-closed_cert : goal.returns-in_err-cert_text-clause-closed_cert
+returns-in_err-cert_text-clause-closed_cert g c = λ shut. (
+  is-err _ c.from_residual-in_err-cert_text.result c.from_residual-in_err-cert_text.ensures.1,
+  (c.in_err-cert_text.ensures.closed_source shut).1,
+)
+
+pub returns-in_err-cert_text-clause-closed_trace : goal.returns-in_err-cert_text-clause-closed_trace
+returns-in_err-cert_text-clause-closed_trace g c =
+    λ shut. absurd (ok-is-err (c.in_ok-recording.ensures.closed_source shut).0)
+
+pub returns-in_err-output-clause-closed_trace : goal.returns-in_err-output-clause-closed_trace
+returns-in_err-output-clause-closed_trace g c =
+    λ shut. absurd (ok-is-err (c.in_ok-recording.ensures.closed_source shut).0)
+
+pub returns-clause-closed_trace : goal.returns-clause-closed_trace
+returns-clause-closed_trace g c =
+    λ shut. absurd (ok-is-err (c.in_ok-recording.ensures.closed_source shut).0)
+
+pub returns-in_err-output-clause-closed_cert : goal.returns-in_err-output-clause-closed_cert
+returns-in_err-output-clause-closed_cert g c =
+    λ shut. absurd (ok-is-err (c.in_ok-cert_text.ensures.closed_source shut).0)
+
+pub returns-clause-closed_cert : goal.returns-clause-closed_cert
+returns-clause-closed_cert g c =
+    λ shut. absurd (ok-is-err (c.in_ok-cert_text.ensures.closed_source shut).0)
