@@ -692,7 +692,8 @@ def refused_calls(tally: Tally, program: str, folder: str) -> None:
     tally.check("refused calls: the page", "what it says never came" in Path(page).read_text())
     said = run(EXPLAIN, ["--program", program, f"{folder}/bad.trace"]).out.decode()
     tally.check("refused calls: explain, of what is wrong by itself", said.startswith("contents 0.1: ") and
-                f"\nWhat this verdict may hide\n  {NEVER_CAME}\n" in said, said)
+                f"\nWhat this verdict may hide\n  {NEVER_CAME}\n" in said and
+                "\nWhere to look\n  Look first at the call that was refused, as told above: what it says is not in the trace.\n" in said, said)
     told = ["a call was refused", "::error::\x1b"]
     got = run(EXPLAIN, ["--program", program, *(word for one in told for word in ("--refused", one)), f"{folder}/fine.trace"])
     tally.check("refused calls: explain, as a recorder tells it", got.status == 0 and

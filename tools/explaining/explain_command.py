@@ -141,7 +141,7 @@ def explain(asked: argparse.Namespace, program: str, trace: bytes, side: Side, j
     is_alone = asked.weak and is_weak_alone(judged.report)
     refused = tuple(map(shown, asked.refused)) or known.refused
     warnings = placed_warnings(warnings_of(judged.report["verdict"], trace, side, is_alone, refused).all, known)
-    words = with_places(with_warnings(words, warnings), known)
+    words = with_places(with_warnings(words, warnings, refused), known)
     print(text_of(words), end="")
     if asked.html:
         write(asked.html, page_of(evidence, told, words, shown(asked.trace), report_text(program, trace), is_alone))

@@ -155,6 +155,6 @@ def explanation_of(row: Row, request: Request, trace: bytes, known: Beside) -> t
         evidence = Evidence(Recording(trace.decode(), known.delivered), row.report)
         words, told = explained(evidence, report_of(request.program), known.language or USUAL, request.weak)
         about = listed(told.elements, MOST_STEPS) if told.report["verdict"] == "refused" else ""
-        return text_of(with_places(with_warnings(words, row.warnings or []), known)), about
+        return text_of(with_places(with_warnings(words, row.warnings or [], known.refused), known)), about
     except (Unexplained, NoProgram, ValueError, LookupError, MemoryError):
         return row.verdict, ""

@@ -15,6 +15,8 @@ from .telling import FIRST_STEPS, at, counted, did, joined
 
 CODE, LOG, NOTED = "In your code", "In your log", "Noted"  # titles: places of code or of a log; the user's words
 HIDDEN = "What this verdict may hide"  # the title of the section of warnings, the first one
+WHERE = "Where to look"  # that of the likely causes
+REFUSED_FIRST = "Look first at the call that was refused, as told above: what it says is not in the trace."
 MOST_NAMES = 24  # of a list that is shown whole
 AROUND = "a circle, which no order allows"
 LINE = re.compile(r"\bline (\d+)(?=[,):]| of the trace,| \(\d+ recv )")  # of the trace, in words; and not two names, `line` and a number
@@ -39,7 +41,7 @@ def explanation(evidence: Evidence, told: Evidence, language: str = debuggers.US
     causes = causes_of(told, weak)
     alone = [cause for cause in causes if cause.name == ALONE and not weak and is_weak_alone(evidence.report)]
     in_order = [*(cause for cause in causes if cause.name != ALONE), *of_whole(evidence, told), *alone]
-    where = [Section("Where to look", [cause.told for cause in in_order])] if causes else []
+    where = [Section(WHERE, [cause.told for cause in in_order])] if causes else []
     whole = whole_trace(evidence, told)
     if whole:
         others = " too, for other responses" if verdict_of(evidence.report) == verdict_of(told.report) else ""
@@ -122,14 +124,15 @@ def without_receipts(evidence: Evidence) -> list:
     return [Section("First of all", ["this trace has no recv line: `received` was never called, so no replica has heard of another"])]
 
 
-def with_warnings(told: Explanation, warnings: list) -> Explanation:
-    """The explanation, and before all else what the verdict may hide, where there is something."""
+def with_warnings(told: Explanation, warnings: list, refused: tuple = ()) -> Explanation:
+    """The explanation, and before all else what the verdict may hide, where there is something; and where to look, that calls were refused."""
     if not warnings:
         return told
     number = sum(int(more[1]) if (more := re.match(r"and (\d+) more ", warning)) else 1 for warning in warnings)
     count = "a warning" if number == 1 else f"{counted(number)} warnings"
     headline = re.sub(rf"^(accepted|{WEAK_ALONE}): ", rf"\1, with {count}: ", told.headline)
-    return told._replace(headline=headline, sections=[Section(HIDDEN, warnings), *told.sections])
+    sections = [section._replace(lines=[REFUSED_FIRST] * bool(refused) + section.lines) if section.title == WHERE else section for section in told.sections]
+    return told._replace(headline=headline, sections=[Section(HIDDEN, warnings), *sections])
 
 
 def text_of(told: Explanation) -> str:
