@@ -552,7 +552,7 @@ OTHERS = [("echo hello", "0"), ("exit 0", "0"), ("echo '[]'", "0"), ("echo 5; ex
 PLANTED = {
     "tombstone": (150, 50, ["beside deleted elements"]),
     "tie": (100, 50, ["order of concurrent inserts", "rule that orders concurrent inserts", "where a replica places an incoming insert"]),
-    "clock": (300, 20, ["numbers that order inserts", "number that orders inserts"]),
+    "clock": (300, 20, ["decides by numbers (a clock, ids) which of two inserts", "the clock that decides between inserts"]),
     "mapping": (150, 40, ["perhaps not adjusted for the delete", "perhaps not adjusted for the insert"]),
     "unmoved": (80, 40, [" was perhaps not adjusted for", "not adjusted for an insert", "not adjusted for inserts"]),
     "behind": (80, 40, ["order of concurrent inserts", "neither author had seen the other's insert"]),
@@ -1151,7 +1151,7 @@ ASTRAY = {
     "another replica lacks one": ([1, 2, 3, 5], [1, 2, 3, 4, 5], "e1 e2 e3 e4",
                                   "0.4 (line 6) was lost on its way to replica 1, or overtaken: no receipt there names it, though all other changes of "),
     "it lacks one itself": ([1, 2, 3, 4, 5], [1, 2, 3, 5], "e1 e2 e3 e5",
-                            "0.4 was lost on its way to replica 2: no receipt there names it. If it was overtaken, "),
+                            "0.4 was lost on its way to replica 2: no receipt there names it. If it was not lost but overtaken, "),
     "it lacks two": ([1, 2, 3, 4, 5], [1, 3, 5], "e1 e3 e5", "0.2 (line 4) and 0.4 (line 6) were lost on their way to replica 2, or overtaken: no receipt "
                      "there names them, though all other changes of replica 0 have one. "),
     "it lacks one that it shows": ([1, 2, 3, 4, 5], [1, 2, 3, 5], "e1 e2 e3 e4", None),
