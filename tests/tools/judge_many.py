@@ -90,8 +90,8 @@ WARNINGS = {
     "past": re.compile(r"line (\d+), \d+\.\d+: replica \d+ inserted "),
     "more": re.compile(r"and (\d+) more (?:deletes? of|inserts? past) "),
     "unheard": re.compile(r"replica (\d+) never hears of replicas? ([\d, and]+): "),
-    "ends": re.compile(r"(in the end replicas [\d, and]+ show different lists|in this recording )"),
-    "unshown": re.compile(r"replica (\d+) received .* last, and nothing(?: but a view)? shows how it applied (?:that|them): "),
+    "ends": re.compile(r"(in the end replicas [\d, and]+ (?:show different lists|do not all show the same list)|in this recording )"),
+    "unshown": re.compile(r"replica (\d+) received .* last, and shows no list(?: but a view)? after (?:that|them): "),
 }
 LACKED = re.compile(r"((?:\d+\.\d+ \(line \d+\)(?:, | and )?|\d+ more )+) ?never arrived at replicas? (\d+(?:(?:, | and )\d+(?![\d.]))*)")
 NAMED = re.compile(r"(\d+)\.(\d+) \(line (\d+)\)")
