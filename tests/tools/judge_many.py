@@ -93,7 +93,7 @@ WARNINGS = {
     "ends": re.compile(r"(in the end replicas [\d, and]+ (?:show different lists|do not all show the same list)|in this recording )"),
     "unshown": re.compile(r"replica (\d+) received .* last, and shows no list(?: but a view)? after (?:that|them): "),
 }
-LACKED = re.compile(r"((?:\d+\.\d+ \(line \d+\)(?:, | and )?|\d+ more )+) ?never arrived at replicas? (\d+(?:(?:, | and )\d+(?![\d.]))*)")
+LACKED = re.compile(r"((?:\d+\.\d+ \(line \d+\)(?:, | and )?|\d+ more )+) ?never arrived at replicas? (\d+(?:(?:, | and )\d+(?!\d|\.\d))*)")
 NAMED = re.compile(r"(\d+)\.(\d+) \(line (\d+)\)")
 
 KINDS_EXCHANGED = [exchanged.SMALL_PEERS, exchanged.SMALL_STAR, exchanged.SMALL_MIDDLE]
