@@ -126,8 +126,8 @@ for line in sys.stdin:
 PROSEMIRROR = {
     "text_changes_places": ("plan 3 causal|0 ins x at 0|2 take 0 : 0.1|1 take 2 : 0.1|1 ins b after x|1 ins a before x|0 del x|"
                             "2 take 0 : 0.2|1 take 2 : 0.2|end",
-                            "refused 2: two responses can't be right together.|b was put behind x, which was already deleted at 1.4 (line 10)|"
-                            "a was put before x, which was already deleted at 1.4 (line 10)|strong and weak fail"),
+                            "refused 2: two responses can't be right together.|b was put behind x. At 1.4 (line 10), x was deleted already, by 0.2 (line 8)|"
+                            "a was put before x. At 1.4 (line 10), x was deleted already, by 0.2 (line 8)|strong and weak fail"),
     "three_way_cycle": ("plan 4 causal|0 ins x at 0|3 take 0 : 0.1|1 take 3 : 0.1|2 take 3 : 0.1|1 ins a before x|2 ins b after x|0 del x|"
                         "3 take 0 : 0.2|3 take 2 : 2.1|1 take 3 : 0.2 2.1|end",
                         "refused 3: three responses can't be right together. Any two of them can.|"

@@ -56,13 +56,15 @@ THREE_WAY = "0 ins x 0 : x|1 recv 0 1|2 recv 0 1|1 ins a 0 : a x|2 ins b 1 : x b
 BESIDE_DELETED = "0 ins b 0 : b|1 recv 0 1|1 ins c 1 : b c|0 recv 1 1|0 read : b c|1 del b : c|0 ins d 1 : b d c|1 recv 0 3|1 read : c d"
 
 
-def stop(line: int, doing: str, *others: int) -> str:
-    """The lines of an explanation that say where to stop a debugger."""
+def stop(line: int, doing: str, *others: int, together: int = 0) -> str:
+    """The lines of an explanation that say where to stop a debugger; where receipts up to there stand together, from which line on."""
     before = ", ".join(f"line {other}" for other in others)
     doing += f"; if nothing is wrong there, stop at {'another arrival' if len(others) == 1 else 'other arrivals'} ({before})" if others else ""
     asked = f"if recording.lines() == {line - 1}: breakpoint()"
     where = "where your code reads the list" if "reads the list" in doing else "where your code begins to apply a change, local or remote"
-    where += f" (the recording has {line - 1} lines then)"
+    or_first = f", or {together - 1} if the receipts from line {together} on were written together" if together else ""
+    asked = f"if recording.lines() in ({together - 1}, {line - 1}): breakpoint()" if together else asked
+    where += f" (the recording has {line - 1} lines then{or_first})"
     return f"|In a debugger|stop before line {line} of the trace, where {doing}. In Python, put this {where}: {asked}"
 
 
@@ -109,7 +111,7 @@ WORDS = [
      "compared as text?|"
      "An editor whose server orders all changes, as Jupiter's does, promises only the weak list specification, and up to line 11 that "
      "holds. To ask for that only, use --weak."
-     + stop(10, "replica 0 applies 2.1", 9, 5, 4)),
+     + stop(10, "replica 0 applies 2.1", 9, 5, 4, together=9)),
     ("an insert that arrives beside a deleted element", 2, BESIDE_DELETED,
      "[d] before [c]: line 9 of the trace, 0.3: replica 0 inserted d at position 1, answered b [d] [c]|"
      "[c] before [d]: line 11, 1.3: replica 1 read the list, answered [c] [d]|"
@@ -176,7 +178,7 @@ WORDS = [
      "different orders. Use a rule that gives the same order everywhere (such as the replicas' numbers), and not the order of "
      "arrival.|For the verdict on the whole trace (below): if the editor sends positions, the position of b was perhaps not adjusted for the delete of x by 0.2 (line 8), which replica 1 "
      "knew and the author of b did not; or the position of the delete was not adjusted for an insert that its author had not seen.|"
-     "" + stop(10, "replica 0 applies 2.1", 9, 5, 4) + "||What the whole trace shows: a circle, which no order allows|"
+     "" + stop(10, "replica 0 applies 2.1", 9, 5, 4, together=9) + "||What the whole trace shows: a circle, which no order allows|"
      "[a] before [b]: line 14, 1.2: replica 1 read the list, answered [a] [b]|"
      "[b] before [a]: line 11, 0.3: replica 0 read the list, answered [b] [a]"),
     ("a neighbour that its replica deleted before another's delete arrived", 2, "0 ins x 0 : x|1 recv 0 1|1 ins b 1 : x b|1 del x : b|"
@@ -338,7 +340,7 @@ WORDS = [
      "[b] 0.2's own receipt comes only in line 9 (1 recv 0 2). 0.3 overtook it in line 7: that is not causal order|[b] no operation deletes it|"
      "Look at the order in which operations arrive: 0.2 was overtaken, as told above. Apply an operation only after everything that its author had seen, or send all of that together with it. If the editor itself holds "
      f"operations back, write the receipt of each only when it is applied. {GUIDE} shows what to record in each case."
-     + stop(7, "replica 1 applies 0.3")),
+     + stop(7, "replica 1 applies 0.3", together=6)),
     ("a change without a receipt, as each other of its author has one", 2, "0 ins a 0 : a|0 ins b 1 : a b|0 ins c 2 : a b c|0 ins d 3 : a b c d|1 recv 0 1|"
      "1 read : a|1 recv 0 3|1 read : a c|1 recv 0 4|1 read : a c d",
      "[b] 0.2 has no receipt of its own at replica 1, though all other changes of replica 0 have one. 0.2 was lost, or 0.3 overtook it in line 9"),
@@ -687,6 +689,13 @@ STATEMENTS = [
     ("language cobol\n", "In Python, put this {} (the recording has 6 lines then): if recording.lines() == 6: breakpoint()"),
     ("language rust\nlanguage c\n", 'In Rust, put this {} (the recording has 6 lines then): if recording.lines() == 6 {{ eprintln!("here") }}, with a breakpoint on it'),
 ]
+# By language the statement before the second of two receipts, in lines 5 and 6, that stand together.
+FOR_TWO = {
+    "python": "if recording.lines() in (4, 5): breakpoint()", "javascript": "if ([4, 5].includes(recording.lines())) debugger",
+    "rust": 'if [4, 5].contains(&recording.lines()) { eprintln!("here") }, with a breakpoint on it',
+    "c": "if (domepeeler_lines(recording) == 4 || domepeeler_lines(recording) == 5) raise(SIGTRAP);",
+    "emacs-lisp": "(when (memq (domepeeler-lines recording) '(4 5)) (debug))",
+}
 WHERE = "where your code reads the list"
 # What stands beside a trace, and the section of the user's notes.
 NOTES = [
@@ -1104,6 +1113,10 @@ def places(tally: Tally, program: str, folder: str) -> None:
         if name not in ("", "cobol"):
             got = explain(program, ["--language", name, "-"], path.read_bytes()).out.decode()
             tally.check(f"a debugger: {name}, asked for", paragraph(got, "In a debugger").endswith(f"reads the list. {wanted.format(WHERE)}"), got)
+    for name, wanted in FOR_TWO.items():
+        got = explain(program, ["--language", name, "-"], text_of(2, "0 ins a 0 : a|0 ins b 1 : a b|1 recv 0 1|1 recv 0 2|1 read : a").encode()).out.decode()
+        tally.check(f"a debugger: {name}, receipts that stand together", paragraph(got, "In a debugger").endswith(
+            f"(the recording has 5 lines then, or 4 if the receipts from line 5 on were written together): {wanted}"), got)
     undelivered(tally, program, folder)
     path.write_text(text_of(2, PLACED))
     for beside, wanted in NOTES:

@@ -2,7 +2,7 @@
 from __future__ import annotations
 
 from .evidence import Evidence
-from .recordings import Operation, Receipt
+from .recordings import FIRST_ENTRY, Operation, Receipt, Recording
 
 TITLE = "In a debugger"
 MOST_OTHERS = 8  # lines where others arrived that are told
@@ -13,6 +13,14 @@ LANGUAGES = {
     "rust": ("Rust", 'if recording.lines() == {} {{ eprintln!("here") }}, with a breakpoint on it'),
     "c": ("C", "if (domepeeler_lines(recording) == {}) raise(SIGTRAP);"),
     "emacs-lisp": ("Emacs Lisp", "(when (= (domepeeler-lines recording) {}) (debug))"),
+}
+# The same for either of two counts.
+FOR_TWO = {
+    "python": "if recording.lines() in ({}, {}): breakpoint()",
+    "javascript": "if ([{}, {}].includes(recording.lines())) debugger",
+    "rust": 'if [{}, {}].contains(&recording.lines()) {{ eprintln!("here") }}, with a breakpoint on it',
+    "c": "if (domepeeler_lines(recording) == {} || domepeeler_lines(recording) == {}) raise(SIGTRAP);",
+    "emacs-lisp": "(when (memq (domepeeler-lines recording) '({} {})) (debug))",
 }
 USUAL = "python"  # of a trace of which nothing says who recorded it
 BEGINS, READS = "where your code begins to apply a change, local or remote", "where your code reads the list"
@@ -52,11 +60,29 @@ def told(evidence: Evidence, entry: Operation | Receipt, others: list) -> str:
     return f"stop before line {entry.line} of the trace, where {doing(entry)}{then}."
 
 
-def statement(entry: Operation | Receipt, language: str) -> str:
-    """How to stop before this entry, in the recorder's language."""
-    name, words = LANGUAGES.get(language) or LANGUAGES[USUAL]
+def statement(recording: Recording, entry: Operation | Receipt, language: str) -> str:
+    """How to stop before this entry, in the recorder's language. Receipts that stand together may have been written together, when all were
+    applied: then before the first of them."""
+    language = language if language in LANGUAGES else USUAL
+    name, words = LANGUAGES[language]
     is_read = isinstance(entry, Operation) and entry.kind in ("read", "view")
-    return f" In {name}, put this {READS if is_read else BEGINS} (the recording has {entry.line - 1} lines then): {words.format(entry.line - 1)}"
+    first = first_together(recording, entry)
+    then, asked = f"the recording has {entry.line - 1} lines then", words.format(entry.line - 1)
+    if first < entry.line:
+        then += f", or {first - 1} if the receipts from line {first} on were written together"
+        asked = FOR_TWO[language].format(first - 1, entry.line - 1)
+    return f" In {name}, put this {READS if is_read else BEGINS} ({then}): {asked}"
+
+
+def first_together(recording: Recording, entry: Operation | Receipt) -> int:
+    """The line of the first of the receipts of one replica that stand one behind the other up to this entry; its own of what is none."""
+    first = entry.line
+    while isinstance(entry, Receipt) and first > FIRST_ENTRY:
+        before = recording.entries[first - FIRST_ENTRY - 1]
+        if not isinstance(before, Receipt) or before.replica != entry.replica:
+            break
+        first -= 1
+    return first
 
 
 def doing(entry: Operation | Receipt) -> str:

@@ -113,7 +113,7 @@ def whole_trace(evidence: Evidence, told: Evidence) -> list:
 
 def in_a_debugger(told: Evidence, language: str) -> list:
     entry, others = debuggers.stop_of(told)
-    return [Section(debuggers.TITLE, [debuggers.told(told, entry, others) + debuggers.statement(entry, language)])] if entry else []
+    return [Section(debuggers.TITLE, [debuggers.told(told, entry, others) + debuggers.statement(told.recording, entry, language)])] if entry else []
 
 
 def without_receipts(evidence: Evidence) -> list:
