@@ -62,7 +62,7 @@ def stop(line: int, doing: str, *others: int, together: int = 0) -> str:
     doing += f"; if nothing is wrong there, stop at {'another arrival' if len(others) == 1 else 'other arrivals'} ({before})" if others else ""
     asked = f"if recording.lines() == {line - 1}: breakpoint()"
     where = "where your code reads the list" if "reads the list" in doing else "where your code begins to apply a change, local or remote"
-    or_first = f", or {together - 1} if the receipts from line {together} on were written together" if together else ""
+    or_first = f", or {together - 1} if this receipt was written together with those before it" if together else ""
     asked = f"if recording.lines() in ({together - 1}, {line - 1}): breakpoint()" if together else asked
     where += f" (the recording has {line - 1} lines then{or_first})"
     return f"|In a debugger|stop before line {line} of the trace, where {doing}. In Python, put this {where}: {asked}"
@@ -317,12 +317,12 @@ WORDS = [
      "Missing|[b] inserted by 0.2 (line 4), which arrived at replica 1 in line 5 (1 recv 0 2)|"
      "[b] was put behind a. When it arrived at replica 1 in line 5, a was not deleted there|[b] no operation deletes it||"
      "Where to look|"
-     "When 0.3 (line 7) was applied at replica 1, its element a was already deleted there, by 1.2 (line 8): look at what the editor does with a delete whose element is gone. The "
-     "editor may have deleted b instead." + stop(9, "replica 1 applies 0.3")),
+     "It looks as if 0.3 (line 7), applied at replica 1, deleted b instead of a: look at how a replica that applies a delete "
+     "finds the element. a was already deleted there, by 1.2 (line 8), so look also at what the editor does with a delete whose element is gone." + stop(9, "replica 1 applies 0.3")),
     ("a delete of one's own after another's", 2, "0 ins a 0 : a|0 ins b 1 : a b|1 recv 0 2|1 del a : b|0 recv 1 1|0 del a :",
      "contents 0.3: this response lacks one element that replica 0 should have had by then.|"
-     "When 0.3 (line 8) was applied at replica 0, its element a was already deleted there, by 1.1 (line 6): look at what the editor does with a delete whose element is gone. The "
-     "editor may have deleted b instead." + stop(7, "replica 0 applies 1.1")),
+     "It looks as if 0.3 (line 8), applied at replica 0, deleted b instead of a: look at how a replica that applies a delete "
+     "finds the element. a was already deleted there, by 1.1 (line 6), so look also at what the editor does with a delete whose element is gone." + stop(7, "replica 0 applies 1.1")),
     ("an element lost whose neighbour was deleted where it arrived", 2, "0 ins a 0 : a|0 ins b 1 : a b|1 recv 0 2|1 read : a b|0 ins c 1 : a c b|1 del a : b|"
      "1 recv 0 3|1 read : b",
      "contents 1.3: this response lacks one element that replica 1 should have had by then.|Missing|"
@@ -1116,7 +1116,7 @@ def places(tally: Tally, program: str, folder: str) -> None:
     for name, wanted in FOR_TWO.items():
         got = explain(program, ["--language", name, "-"], text_of(2, "0 ins a 0 : a|0 ins b 1 : a b|1 recv 0 1|1 recv 0 2|1 read : a").encode()).out.decode()
         tally.check(f"a debugger: {name}, receipts that stand together", paragraph(got, "In a debugger").endswith(
-            f"(the recording has 5 lines then, or 4 if the receipts from line 5 on were written together): {wanted}"), got)
+            f"(the recording has 5 lines then, or 4 if this receipt was written together with those before it): {wanted}"), got)
     undelivered(tally, program, folder)
     path.write_text(text_of(2, PLACED))
     for beside, wanted in NOTES:

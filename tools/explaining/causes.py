@@ -45,8 +45,8 @@ MOVED_DELETE = ("If the editor sends positions, the position of {delete} was per
 MOVED_BEFORE = "; or an earlier insert was not adjusted for a delete that its author had not seen"
 PUT_AT_ONCE = (" {others} {were} inserted at the same place as {element}, and neither author had seen the other's insert. Look also at which "
                "of them comes first.")
-SECOND_DELETE = ("When {again} was applied at replica {replica}, its element {element} was already deleted there, by {first}: look at what the editor does "
-                 "with a delete whose element is gone. The editor may have deleted {missing} instead.")
+SECOND_DELETE = ("It looks as if {again}, applied at replica {replica}, deleted {missing} instead of {element}: look at how a replica that applies a delete "
+                 "finds the element. {element} was already deleted there, by {first}, so look also at what the editor does with a delete whose element is gone.")
 CAUSAL = ("Apply an operation only after everything that its author had seen, or send all of that together with it. If the editor itself holds operations "
           f"back, write the receipt of each only when it is applied. {GUIDE} shows what to record in each case.")
 OVERTAKEN = "Look at the order in which operations arrive: {name} was overtaken, as told above. " + CAUSAL

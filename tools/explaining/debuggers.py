@@ -36,7 +36,8 @@ def stop_of(evidence: Evidence) -> tuple:
         arrived = {arrival.receipt.line: arrival.receipt for arrival in evidence.arrivals
                    if not evidence.recording.is_delivered(arrival.receipt.line)}
         *others, entry = list(arrived.values()) or [max(evidence.operations, key=lambda operation: operation.line)]
-        return entry, others[::-1]
+        first = came_between(evidence)
+        return (first, [other for other in [entry, *others[::-1]] if other.line != first.line]) if first else (entry, others[::-1])
     named = evidence.operations[0]
     if evidence.report["verdict"] == "contents" and evidence.undelivered:
         return evidence.undelivered[0], []
@@ -49,6 +50,18 @@ def stop_of(evidence: Evidence) -> tuple:
         received = [] if added and not left_out else evidence.before(named)[1]  # where a receipt is missing, none of these is at fault
         return [*second, *overtaking, *not_applied, *received, named][0], []
     return named, []
+
+
+def came_between(evidence: Evidence) -> Receipt | None:
+    """Of an element that a response shows between two that were put together, and the second of these, the receipt of the one that came last to its
+    replica: there one of them was put into its place."""
+    if evidence.between is None:
+        return None
+    *names, _, operation = evidence.between
+    inserts = [evidence.recording.inserts[name][0] for name in names]
+    came = [evidence.recording.arrival(insert, operation.replica) for insert in inserts if insert.replica != operation.replica]
+    last = max(filter(None, came), key=lambda receipt: receipt.line, default=None)
+    return None if last is None or evidence.recording.is_delivered(last.line) else last
 
 
 def told(evidence: Evidence, entry: Operation | Receipt, others: list) -> str:
@@ -69,7 +82,7 @@ def statement(recording: Recording, entry: Operation | Receipt, language: str) -
     first = first_together(recording, entry)
     then, asked = f"the recording has {entry.line - 1} lines then", words.format(entry.line - 1)
     if first < entry.line:
-        then += f", or {first - 1} if the receipts from line {first} on were written together"
+        then += f", or {first - 1} if this receipt was written together with those before it"
         asked = FOR_TWO[language].format(first - 1, entry.line - 1)
     return f" In {name}, put this {READS if is_read else BEGINS} ({then}): {asked}"
 
