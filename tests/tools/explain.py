@@ -157,8 +157,8 @@ WORDS = [
      "before it: replica 1's 1.2 (line 8) fits; since then it received 0.3 (line 10)|"
      "by the receipts, replicas 0 and 1 have every change in the end, and show the same list||Where to look" + stop(10, "replica 1 applies 0.3", 6)),
     ("a beginning that shows something else", 3, f"{THREE_WAY}|1 recv 0 2|1 recv 2 1|1 read : a b",
-     "refused 3: three responses can't be right together. Any two of them can. This is the verdict on the first 11 lines; the "
-     "whole trace gets `refused 2` (see below).||"
+     "refused 3: three responses can't be right together. Any two of them can. So it first went wrong, in the first 11 lines. "
+     "The verdict on the whole trace is `refused 2`: see the end.||"
      "When it went wrong|line 11 of the trace, 0.3: replica 0 read the list. Up to line 10 the session is accepted; line 11 leads to "
      "`refused 3`|"
      "before it: replica 0's 0.2 (line 8) fits; since then it received 1.1 (line 9), 2.1 (line 10)|"
@@ -386,8 +386,8 @@ WORDS = [
      f"all those that its author had seen. Editor: does it lose a change, apply it twice, or apply it to another element? {GUIDE} says where the calls "
      "go." + stop(7, "replica 1 applies 0.2")),
     ("a wrong response before the one that the program names", 2, "1 ins a 0 : a|1 read :|0 recv 1 1|0 read : a|0 read :|1 read : a",
-     "contents 1.2: this response lacks one element that replica 1 should have had by then. This is the verdict on the first 4 lines; the whole trace gets "
-     "`contents 0.2` (see below).||When it went wrong|"
+     "contents 1.2: this response lacks one element that replica 1 should have had by then. So it first went wrong, in the first 4 lines. The verdict on "
+     "the whole trace is `contents 0.2`: see the end.||When it went wrong|"
      "line 4 of the trace, 1.2: replica 1 read the list. Up to line 3 the session is accepted; line 4 leads to `contents 1.2`|"
      "the first 4 lines are enough to show it (`head -4`)||The response|line 4 of the trace, 1.2: replica 1 read the list|answered: (nothing)|"
      "[a] inserted by 1.1 (line 3), an earlier operation of replica 1" + stop(4, "replica 1 reads the list")
@@ -921,7 +921,7 @@ def beginning(tally: Tally, program: str, text: str, report: dict, said: str) ->
     titles = [line for line in front.splitlines() if line.startswith("What the")]
     tally.check("refused: under which title", titles == ["What they show: a circle, which no order allows"], said)
     others = " too, for other responses" if behind["k"] == report["k"] else ""
-    ending = f" This is the verdict on the first {last} lines; the whole trace gets `refused {report['k']}`{others} (see below)."
+    ending = f" So it first went wrong, in the first {last} lines. The verdict on the whole trace is `refused {report['k']}`{others}: see the end."
     tally.check("refused: the whole trace's number", said.splitlines()[0].endswith(ending) == bool(wanted[1:])
                 and said.startswith(f"refused {behind['k']}: "), said)
     return "".join(lines[:last]), behind
@@ -949,7 +949,7 @@ def sooner(tally: Tally, program: str, text: str, report: dict, said: str) -> tu
     tally.check("a fault: when it went wrong", is_right if wanted else not told, f"{text}{report}\n{said}")
     headline, is_other = said.splitlines()[0], of_whole != of_first
     tally.check("a fault: its headline", headline.startswith(of_first.partition(" ")[0]) and headline.endswith(
-        f" This is the verdict on the first {count} lines; the whole trace gets `{of_whole}` (see below).") == is_other
+        f" So it first went wrong, in the first {count} lines. The verdict on the whole trace is `{of_whole}`: see the end.") == is_other
                 and ("the whole trace" in headline) == is_other, f"{text}{report}\n{said}")
     tally.check("a fault: what the whole trace names", bool(paragraph(said, "What the verdict on the whole trace is about")) == is_other,
                 f"{text}{report}\n{said}")

@@ -45,7 +45,7 @@ def explanation(evidence: Evidence, told: Evidence, language: str = debuggers.US
     whole = whole_trace(evidence, told)
     if whole:
         others = " too, for other responses" if verdict_of(evidence.report) == verdict_of(told.report) else ""
-        headline += f" This is the verdict on the first {told.last_line} lines; the whole trace gets {verdict_of(evidence.report)}{others} (see below)."
+        headline += f" So it first went wrong, in the first {told.last_line} lines. The verdict on the whole trace is {verdict_of(evidence.report)}{others}: see the end."
     if weak and is_weak_alone(evidence.report):
         headline = f"{WEAK_ALONE}: this passes, since only the weak list specification is asked for. The strong one gets {headline}"
     return Explanation(headline, [*when_it_went_wrong(evidence, told, weak), *without_receipts(told), *sections, *where,
