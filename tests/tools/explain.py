@@ -62,7 +62,7 @@ def stop(line: int, doing: str, *others: int, together: int = 0) -> str:
     doing += f"; if nothing is wrong there, stop at {'another arrival' if len(others) == 1 else 'other arrivals'} ({before})" if others else ""
     asked = f"if recording.lines() == {line - 1}: breakpoint()"
     where = "where your code reads the list" if "reads the list" in doing else "where your code begins to apply a change, local or remote"
-    or_first = f", or {together - 1} if this receipt was written together with those before it" if together else ""
+    or_first = f", or {together - 1} if the {line - together + 1} receipts up to there were written in one go" if together else ""
     asked = f"if recording.lines() in ({together - 1}, {line - 1}): breakpoint()" if together else asked
     where += f" (the recording has {line - 1} lines then{or_first})"
     return f"|In a debugger|stop before line {line} of the trace, where {doing}. In Python, put this {where}: {asked}"
@@ -128,15 +128,15 @@ WORDS = [
     ("an insert between two that were put together", 2, "0 ins a 0 : a|0 ins b 1 : a b|1 ins c 0 : c|1 recv 0 2|1 read : a c b|0 recv 1 1|0 read : a b c",
      "[c] before [b]: line 7, 1.2: replica 1 read the list, answered a [c] [b]|Where to look|"
      "1.2 (line 7) shows [c] between [a] and [b], which was put directly behind [a]; the author of [c] knew neither. If inserts find their place by a "
-     "neighbour, look at how the place of [c] is found there: what passes [a] must also pass all that was put behind it.|"
+     "neighbour, look at how [c] found its place there: what is moved past [a] must also be moved past all that was put behind [a].|"
      "Look at the order of concurrent inserts: b and c were inserted without knowing of each other, and were shown in two different orders. Use a rule that "
      "gives the same order everywhere (such as the replicas' numbers), and not the order of arrival."),
     ("an insert behind what the other author did not know, which is deleted", 2, "0 ins a 0 : a|0 ins b 1 : a b|0 del a : b|1 ins c 0 : c|1 recv 0 3|"
      "1 read : c b|0 recv 1 1|0 read : b c", "Where to look|"
      "Look at the order of concurrent inserts: b and c were inserted without knowing of each other, and were shown in two different orders. Use a rule that "
      "gives the same order everywhere (such as the replicas' numbers), and not the order of arrival.|"
-     "[b] was put directly behind [a], which the author of [c] did not know. If inserts find their place by a neighbour, look at how the place of [c] is "
-     "found: what passes [a] must also pass all that was put behind it."),
+     "[b] was put directly behind [a]; the author of [c] did not know [a]. If inserts find their place by a neighbour, look at how [c] found its "
+     "place: what is moved past [a] must also be moved past all that was put behind [a]."),
     ("an insert between two that are deleted by others", 3, "0 ins a 0 : a|0 ins b 1 : a b|1 recv 0 2|2 recv 0 2|2 ins c 1 : a c b|1 del a : b|"
      "0 del b : a|1 recv 0 3|1 read :|1 ins d 0 : d|1 recv 2 1|1 read : c d|2 recv 1 3|2 read : d c",
      "[d] before [c]: line 16 of the trace, 2.2: replica 2 read the list, answered [d] [c]|"
@@ -147,7 +147,7 @@ WORDS = [
      "When it went wrong|line 11 of the trace, 1.3: replica 1 read the list. Up to line 10 the session is accepted; line 11 leads to `refused 2`|"
      "before it: replica 1's 1.2 (line 8) fits; since then it received 0.3 (line 10)|"
      "by the receipts, replicas 0 and 1 have every change in the end, and show the same elements in different orders||"
-     "What they show: a circle, which no order allows|"
+     "What these responses show: a circle, which no order allows|"
      "[d] before [c]: line 9, 0.3: replica 0 inserted d at position 1, answered b [d] [c]|"
      "[c] before [d]: line 11, 1.3: replica 1 read the list, answered [c] [d]||The elements|"
      "c arrived at replica 0 in line 6, d at replica 1 in line 10||"
@@ -157,13 +157,13 @@ WORDS = [
      "before it: replica 1's 1.2 (line 8) fits; since then it received 0.3 (line 10)|"
      "by the receipts, replicas 0 and 1 have every change in the end, and show the same list||Where to look" + stop(10, "replica 1 applies 0.3", 6)),
     ("a beginning that shows something else", 3, f"{THREE_WAY}|1 recv 0 2|1 recv 2 1|1 read : a b",
-     "refused 3: three responses can't be right together. Any two of them can. So it first went wrong, in the first 11 lines. "
-     "The verdict on the whole trace is `refused 2`: see the end.||"
+     "refused 3: three responses can't be right together. Any two of them can. This is what went wrong first, within the "
+     "first 11 lines. The verdict on the whole trace is `refused 2`: see the end.||"
      "When it went wrong|line 11 of the trace, 0.3: replica 0 read the list. Up to line 10 the session is accepted; line 11 leads to "
      "`refused 3`|"
      "before it: replica 0's 0.2 (line 8) fits; since then it received 1.1 (line 9), 2.1 (line 10)|"
      "by the receipts, replicas 0 and 1 have every change in the end, and show the same elements in different orders||"
-     "What they show: a circle, which no order allows|"
+     "What these responses show: a circle, which no order allows|"
      "[x] before [b]: line 7, 2.1: replica 2 inserted b at position 1, answered [x] [b]|"
      "[b] before [a]: line 11, 0.3: replica 0 read the list, answered [b] [a]|"
      "[a] before [x]: line 6, 1.1: replica 1 inserted a at position 0, answered [a] [x]||The elements|"
@@ -198,8 +198,8 @@ WORDS = [
      "[b] before [c]: line 9, 1.2: replica 1 read the list, answered [b] [c]|"
      "[c] before [a]: line 11, 2.2: replica 2 read the list, answered [c] [a]|"
      "b arrived at replica 0 in line 6, c at replica 1 in line 8, a at replica 2 in line 10|"
-     "Look at how a replica orders elements when it has only some of them: any two of 0.2, 1.2 and 2.2 fit together, all three don't. Where one of "
-     "these responses lacks an element, that was not deleted there: it had not arrived yet. Often the rule that orders concurrent inserts is not the same everywhere."
+     "Look at how a replica orders elements when it has only some of them: any two of 0.2, 1.2 and 2.2 fit together, all three don't. An element "
+     "that one of these responses lacks was not deleted there; it had not arrived yet. Often the rule that orders concurrent inserts is not the same everywhere."
      + stop(10, "replica 2 applies 0.1", 8, 6)),
     ("an element that came along with what had seen it", 3, "0 ins a 0 : a|1 recv 0 1|1 read : a|1 ins b 1 : a b|2 recv 1 1|2 recv 1 2|"
      "2 recv 0 1|2 read : b a",
@@ -215,8 +215,8 @@ WORDS = [
      "contents 2.1: this response lacks one element that replica 2 should have had by then.|"
      "line 7 of the trace, 2.1: replica 2 read the list|answered: b|it should hold, in any order: b [a]|"
      "before it: replica 2 did nothing, and received 1.1 (line 6)|Missing|"
-     "[a] inserted by 0.1 (line 3), which arrived at replica 1 in line 4 (1 recv 0 1), and from there arrived at replica 2 in line 6 "
-     "(2 recv 1 1)|[a] 0.1 has no receipt of its own at replica 2, and counts as arrived with 1.1, in line 6; its author had 0.1. If "
+     "[a] inserted by 0.1 (line 3), which arrived at replica 1 in line 4 (1 recv 0 1), and from there "
+     "counts as arrived at replica 2 with 1.1 in line 6 (2 recv 1 1)|[a] 0.1 has no receipt of its own at replica 2, and counts as arrived with 1.1, in line 6, since the author of 1.1 had 0.1. If "
      "each operation travels by itself, 1.1 arrived without 0.1: that is not causal order|[a] no operation deletes it||Where to look|"
      "Look first at whether 0.1 was lost on its way to replica 2: no receipt there names it. If it was not lost but overtaken, look at the order in which "
      "operations arrive. Apply an operation only after everything that its author had seen, or send all of that together with it. If the editor itself holds "
@@ -242,7 +242,7 @@ WORDS = [
     ("a deleted element shown, beside one that was there", 2, "0 ins a 0 : a|0 ins b 1 : a b|1 recv 0 2|1 read : a b|0 del b : a|1 recv 0 3|1 read : a b",
      "contents 1.2: this response has one element that should not be there.|answered: a [b]|it should hold, in any order: a|Extra|"
      "[b] inserted by 0.2 (line 4), which arrived at replica 1 in line 5 (1 recv 0 2)|"
-     "[b] was put behind a. When it arrived at replica 1 in line 5, a was not deleted there|"
+     "[b] was put behind a. When it arrived at replica 1 in line 5, a was still there|"
      "[b] deleted by 0.3 (line 7), which arrived at replica 1 in line 8 (1 recv 0 3)"),
     ("a deleted element shown, beside one that was deleted", 2, "0 ins a 0 : a|1 recv 0 1|1 read : a|0 ins b 1 : a b|1 del a :|1 recv 0 2|1 read : b|"
      "0 del b : a|1 recv 0 3|1 read : b",
@@ -296,7 +296,7 @@ WORDS = [
     ("an insert that was deleted before", 2, "1 del a :|0 recv 1 1|0 ins a 0 :",
      "position 0.1: a is not at the position that was asked for.|"
      "asked for: position 0, but the response is empty|"
-     "found at: no position, since it was deleted by 1.1 (line 3), which arrived at replica 0 in line 4 (0 recv 1 1)"),
+     "found at: no position, since a was deleted by 1.1 (line 3), which arrived at replica 0 in line 4 (0 recv 1 1)"),
     ("an insert whose number is not great enough", 2, "0 ins a 0 : a|0 ins b 0 : b a|1 recv 0 2|1 ins c 0 : b c a",
      "position 1.1: c is not at the position that was asked for.|asked for: position 0; the answer has [b] there|found at: position 1||"
      "Where to look|"
@@ -315,7 +315,7 @@ WORDS = [
      "contents 1.3: this response lacks one element that replica 1 should have had by then.|answered: (nothing)|"
      "it should hold, in any order: [b]|before it: replica 1's 1.2 (line 8) is right; since then it received 0.3 (line 9)|"
      "Missing|[b] inserted by 0.2 (line 4), which arrived at replica 1 in line 5 (1 recv 0 2)|"
-     "[b] was put behind a. When it arrived at replica 1 in line 5, a was not deleted there|[b] no operation deletes it||"
+     "[b] was put behind a. When it arrived at replica 1 in line 5, a was still there|[b] no operation deletes it||"
      "Where to look|"
      "It looks as if 0.3 (line 7), applied at replica 1, deleted b instead of a: look at how a replica that applies a delete "
      "finds the element. a was already deleted there, by 1.2 (line 8), so look also at what the editor does with a delete whose element is gone." + stop(9, "replica 1 applies 0.3")),
@@ -332,7 +332,7 @@ WORDS = [
      "If inserts find their place by a neighbour, look at inserts beside deleted elements: when c arrived, its neighbour was already deleted there, as told above. An editor that throws deleted elements "
      "away too early finds no place for it, and loses it or holds it back for ever." + stop(9, "replica 1 applies 0.3")),
     ("an element lost beside two that are there", 2, "0 ins a 0 : a|0 ins b 1 : a b|0 ins c 1 : a c b|1 recv 0 3|1 read : a b",
-     "[c] was put behind a and before b. When it arrived at replica 1 in line 6, a and b were not deleted there"),
+     "[c] was put behind a and before b. When it arrived at replica 1 in line 6, a and b were still there"),
     ("a change that a later one of its author overtook", 2, "0 ins a 0 : a|0 ins b 1 : a b|0 ins c 2 : a b c|1 recv 0 1|1 recv 0 3|1 read : a c|1 recv 0 2|"
      "1 read : a b c",
      "contents 1.1: this response lacks one element that replica 1 should have had by then.|Missing|"
@@ -346,7 +346,7 @@ WORDS = [
      "[b] 0.2 has no receipt of its own at replica 1, though all other changes of replica 0 have one. 0.2 was lost, or 0.3 overtook it in line 9"),
     ("one receipt for several changes of an author", 2, "0 ins a 0 : a|0 ins b 1 : a b|0 ins c 2 : a b c|1 recv 0 3|1 read : a c",
      "[b] inserted by 0.2 (line 4), which counts as arrived at replica 1 with 0.3 in line 6 (1 recv 0 3)|"
-     "[b] was put behind a. When it arrived at replica 1 in line 6, a was not deleted there|[b] no operation deletes it||Where to "
+     "[b] was put behind a. When it arrived at replica 1 in line 6, a was still there|[b] no operation deletes it||Where to "
      "look|It looks as if 0.2 (line 4) was not applied at replica 1: lost, or held back, or `received` is called before the change is applied.|No "
      "receipt at replica 1 names 0.2 (line 4): it counts as arrived with 0.3, in line 6. If you record a receipt for each change, 0.2 was "
      "lost, or 0.3 overtook it."),
@@ -386,7 +386,7 @@ WORDS = [
      f"all those that its author had seen. Editor: does it lose a change, apply it twice, or apply it to another element? {GUIDE} says where the calls "
      "go." + stop(7, "replica 1 applies 0.2")),
     ("a wrong response before the one that the program names", 2, "1 ins a 0 : a|1 read :|0 recv 1 1|0 read : a|0 read :|1 read : a",
-     "contents 1.2: this response lacks one element that replica 1 should have had by then. So it first went wrong, in the first 4 lines. The verdict on "
+     "contents 1.2: this response lacks one element that replica 1 should have had by then. This is what went wrong first, within the first 4 lines. The verdict on "
      "the whole trace is `contents 0.2`: see the end.||When it went wrong|"
      "line 4 of the trace, 1.2: replica 1 read the list. Up to line 3 the session is accepted; line 4 leads to `contents 1.2`|"
      "the first 4 lines are enough to show it (`head -4`)||The response|line 4 of the trace, 1.2: replica 1 read the list|answered: (nothing)|"
@@ -419,7 +419,7 @@ WORDS = [
 
 # The cycle of three, and by then all has arrived everywhere. With it other entries, and what the first of the words say where weak is enough.
 ALL_ARRIVED = f"{THREE_WAY}|1 recv 0 2|1 recv 2 1|1 read : b a|2 recv 0 2|2 recv 1 1|2 read : b a"
-ALONE = "weak holds, strong doesn't: this passes, since only the weak list specification is asked for. The strong one gets "
+ALONE = "weak holds, strong doesn't: this passes, since only the weak list specification is asked for. Why the strong one fails: "
 FAILS_WEAK = [
     # Where strong failed before, the session went wrong where weak fails.
     ("opposite orders after the cycle", f"{THREE_WAY}|1 recv 0 2|1 recv 2 1|1 read : a b|2 recv 0 2|2 recv 1 1|2 read : a b", "refused 2: ", [
@@ -919,9 +919,9 @@ def beginning(tally: Tally, program: str, text: str, report: dict, said: str) ->
     steps = [re.findall(r"^  \[(\S+)\] before \[(\S+)\]: ", half, re.MULTILINE) for half in (front, shown) if half]
     tally.check("refused: what it showed then, and the whole trace", steps == wanted, f"{text}{report}\n{said}")
     titles = [line for line in front.splitlines() if line.startswith("What the")]
-    tally.check("refused: under which title", titles == ["What they show: a circle, which no order allows"], said)
+    tally.check("refused: under which title", titles == ["What these responses show: a circle, which no order allows"], said)
     others = " too, for other responses" if behind["k"] == report["k"] else ""
-    ending = f" So it first went wrong, in the first {last} lines. The verdict on the whole trace is `refused {report['k']}`{others}: see the end."
+    ending = f" This is what went wrong first, within the first {last} lines. The verdict on the whole trace is `refused {report['k']}`{others}: see the end."
     tally.check("refused: the whole trace's number", said.splitlines()[0].endswith(ending) == bool(wanted[1:])
                 and said.startswith(f"refused {behind['k']}: "), said)
     return "".join(lines[:last]), behind
@@ -949,7 +949,7 @@ def sooner(tally: Tally, program: str, text: str, report: dict, said: str) -> tu
     tally.check("a fault: when it went wrong", is_right if wanted else not told, f"{text}{report}\n{said}")
     headline, is_other = said.splitlines()[0], of_whole != of_first
     tally.check("a fault: its headline", headline.startswith(of_first.partition(" ")[0]) and headline.endswith(
-        f" So it first went wrong, in the first {count} lines. The verdict on the whole trace is `{of_whole}`: see the end.") == is_other
+        f" This is what went wrong first, within the first {count} lines. The verdict on the whole trace is `{of_whole}`: see the end.") == is_other
                 and ("the whole trace" in headline) == is_other, f"{text}{report}\n{said}")
     tally.check("a fault: what the whole trace names", bool(paragraph(said, "What the verdict on the whole trace is about")) == is_other,
                 f"{text}{report}\n{said}")
@@ -1116,7 +1116,7 @@ def places(tally: Tally, program: str, folder: str) -> None:
     for name, wanted in FOR_TWO.items():
         got = explain(program, ["--language", name, "-"], text_of(2, "0 ins a 0 : a|0 ins b 1 : a b|1 recv 0 1|1 recv 0 2|1 read : a").encode()).out.decode()
         tally.check(f"a debugger: {name}, receipts that stand together", paragraph(got, "In a debugger").endswith(
-            f"(the recording has 5 lines then, or 4 if this receipt was written together with those before it): {wanted}"), got)
+            f"(the recording has 5 lines then, or 4 if the 2 receipts up to there were written in one go): {wanted}"), got)
     undelivered(tally, program, folder)
     path.write_text(text_of(2, PLACED))
     for beside, wanted in NOTES:

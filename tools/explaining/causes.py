@@ -69,15 +69,15 @@ BESIDE_DELETED = ("If inserts find their place by a neighbour and replicas throw
                   "lines above name {which}. Without that neighbour nothing says where the insert belongs.")
 SEVERAL_DELETED = ("Look at positions beside deleted elements: any {fewer} of {named} fit together, all {k} don't; perhaps an insert lost its place "
                    "because its neighbour was deleted elsewhere. The lines above say which elements each response no longer has.")
-SEVERAL_APART = ("Look at how a replica orders elements when it has only some of them: any {fewer} of {named} fit together, all {k} don't. Where one "
-                 "of these responses lacks an element, that was not deleted there: it had not arrived yet. Often the rule that orders concurrent "
+SEVERAL_APART = ("Look at how a replica orders elements when it has only some of them: any {fewer} of {named} fit together, all {k} don't. An "
+                 "element that one of these responses lacks was not deleted there; it had not arrived yet. Often the rule that orders concurrent "
                  "inserts is not the same everywhere.")
 WEAK_ALONE_HOLDS = ("An editor whose server orders all changes, as Jupiter's does, promises only the weak list specification, and up to line {line} "
                     "that holds. To ask for that only, use --weak.")
 BETWEEN = ("{operation} shows [{other}] between [{behind}] and [{element}], which was put directly behind [{behind}]; the author of [{other}] knew neither. If inserts "
-           "find their place by a neighbour, look at how the place of [{other}] is found there: what passes [{behind}] must also pass all that was put behind it.")
-BEHIND_UNKNOWN = ("[{element}] was put directly behind [{behind}], which the author of [{other}] did not know. If inserts find their place by a neighbour, look at how "
-                  "the place of [{other}] is found: what passes [{behind}] must also pass all that was put behind it.")
+           "find their place by a neighbour, look at how [{other}] found its place there: what is moved past [{behind}] must also be moved past all that was put behind [{behind}].")
+BEHIND_UNKNOWN = ("[{element}] was put directly behind [{behind}]; the author of [{other}] did not know [{behind}]. If inserts find their place by a neighbour, look at how "
+                  "[{other}] found its place: what is moved past [{behind}] must also be moved past all that was put behind [{behind}].")
 CONCURRENT = ("Look at the order of concurrent inserts: {first} and {then} were inserted without knowing of each other, and were shown "
               "in two different orders. Use a rule that gives the same order everywhere (such as the replicas' numbers), and not the order of "
               "arrival.")

@@ -45,9 +45,9 @@ def explanation(evidence: Evidence, told: Evidence, language: str = debuggers.US
     whole = whole_trace(evidence, told)
     if whole:
         others = " too, for other responses" if verdict_of(evidence.report) == verdict_of(told.report) else ""
-        headline += f" So it first went wrong, in the first {told.last_line} lines. The verdict on the whole trace is {verdict_of(evidence.report)}{others}: see the end."
+        headline += f" This is what went wrong first, within the first {told.last_line} lines. The verdict on the whole trace is {verdict_of(evidence.report)}{others}: see the end."
     if weak and is_weak_alone(evidence.report):
-        headline = f"{WEAK_ALONE}: this passes, since only the weak list specification is asked for. The strong one gets {headline}"
+        headline = f"{WEAK_ALONE}: this passes, since only the weak list specification is asked for. Why the strong one fails: {headline}"
     return Explanation(headline, [*when_it_went_wrong(evidence, told, weak), *without_receipts(told), *sections, *where,
                                   *in_a_debugger(told, language), *whole, specifications(evidence.report)],
                        tuple(cause.name for cause in causes))
@@ -93,7 +93,7 @@ def when_it_went_wrong(evidence: Evidence, told: Evidence, weak: bool) -> list:
     lines = [f"{did(entry, is_first=True)}. Up to line {last - 1} {before}; line {last} leads to {verdict}"]
     if told.report["verdict"] == "refused":
         still = "agrees with all responses up to then" if weak and not is_alone else "fits"
-        lines += [since(told, entry, still), *in_the_end(evidence.recording)]
+        lines += [since(told, entry, still), *([] if told.unreceived else in_the_end(evidence.recording))]
     else:
         lines.append(f"the first {last} lines are enough to show it (`head -{last}`)")
     return [Section("When strong came to fail" if is_alone else "When it went wrong", lines)]
@@ -146,7 +146,7 @@ def text_of(told: Explanation) -> str:
 def accepted(evidence: Evidence) -> tuple:
     report = evidence.report
     order = " ".join(report["order"]) or "(there are no elements)"
-    said = {0: "there was no response to judge", 1: "its one response fits one order of the elements", 2: "both responses fit one order of the elements"}
+    said = {0: "there was no response to judge", 1: "the only response fits one order of the elements", 2: "both responses fit one order of the elements"}
     return (f"accepted: {said.get(report['operations'], 'all ' + str(report['operations']) + ' responses fit one order of the elements')}.",
             [Section("One order that fits all responses (deleted elements included)", [order])])
 
@@ -155,7 +155,7 @@ def refused(evidence: Evidence) -> tuple:
     k = evidence.report["k"]
     fewer = "" if k == 2 else f" Any {counted(k - 1)} of them can."
     return (f"refused {k}: {counted(k)} responses can't be right together.{fewer}",
-            [Section(f"What they show: {AROUND}", shown_by(evidence, evidence.last_line == len(evidence.recording.lines))),
+            [Section(f"What these responses show: {AROUND}", shown_by(evidence, evidence.last_line == len(evidence.recording.lines))),
              Section("The elements", elements(evidence))])
 
 
@@ -351,7 +351,7 @@ def overtaken(evidence: Evidence, change: Operation, operation: Operation) -> li
     if change.replica == brought.seen.replica:
         return [f"{change.name} has no receipt of its own at replica {replica}, though all other changes of replica {change.replica} have one. {change.name} "
                 f"was lost, or {brought.seen.name} overtook it in line {brought.line}"]
-    return [f"{change.name} has no receipt of its own at replica {replica}, and counts as arrived with {brought.seen.name}, in line {brought.line}; its author had {change.name}. If each "
+    return [f"{change.name} has no receipt of its own at replica {replica}, and counts as arrived with {brought.seen.name}, in line {brought.line}, since the author of {brought.seen.name} had {change.name}. If each "
             f"operation travels by itself, {brought.seen.name} arrived without {change.name}: that is not causal order"]
 
 
@@ -366,7 +366,7 @@ def neighbours(evidence: Evidence, insert: Operation) -> list:
     if evidence.recording.is_delivered(receipt.line) and not gone:
         return []
     if not gone:
-        was = "was not deleted there" if len(names) == 1 else "were not deleted there"
+        was = "was still there" if len(names) == 1 else "were still there"
         return [f"was put {beside(insert, names)}. When it arrived at replica {receipt.replica} in line {receipt.line}, {joined(names)} {was}"]
     if evidence.recording.is_delivered(receipt.line):
         return [f"was put {beside(insert, names)}. By line {receipt.line}, {gone_there(gone)}"]
@@ -382,7 +382,7 @@ def arrived(recording: Recording, seen: Operation, operation: Operation) -> str:
     way = recording.way(seen, operation)
     if not way:
         return f"an earlier operation of replica {operation.replica}"
-    hops = [f"{how_arrived(receipt, seen if receipt is way[0] else receipt.seen)} in line {receipt.line} ({receipt.text})"
+    hops = [f"{how_arrived(receipt, seen)} in line {receipt.line} ({receipt.text})"
             + ", a line that `delivered` wrote" * recording.is_delivered(receipt.line) for receipt in way]
     return "which " + ", and from there ".join(hops)
 
@@ -417,7 +417,7 @@ def position(evidence: Evidence) -> tuple:
         lines.append(f"found at: position {response.index(operation.element)}")
     else:
         gone = next(change for change in evidence.recording.deletes[operation.element] if operation.has_seen(change))
-        lines.append(f"found at: no position, since it was deleted by {at(gone)}, {arrived(evidence.recording, gone, operation)}")
+        lines.append(f"found at: no position, since {operation.element} was deleted by {at(gone)}, {arrived(evidence.recording, gone, operation)}")
     return (f"position {operation.name}: {operation.element} is not at the position that was asked for.",
             [Section("The response, positions counted from 0", lines)])
 
