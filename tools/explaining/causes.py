@@ -65,8 +65,9 @@ MAPPING = ("Look at how the position that a user sees is mapped to a place in th
 NUMBERS = ("If the editor decides by numbers (a clock, ids) which of two inserts at one place comes first, look at these: {element} stands behind "
            "{passed}, which replica {replica} had already. The number that {element} has must be greater than {theirs}; perhaps it is not. Usual causes: "
            "the clock does not advance when changes arrive; replicas are compared before clocks; ids are compared as text, so 10 comes before 9.")
-BESIDE_DELETED = ("If inserts find their place by a neighbour and replicas throw deleted elements away, look at inserts beside deleted elements: the "
-                  "lines above name {which}. Without that neighbour nothing says where the insert belongs.")
+BESIDE_DELETED = ("If inserts find their place by a neighbour, look at inserts beside deleted elements: the lines above name {which}. If replicas throw "
+                  "deleted elements away, nothing says then where the insert belongs; if they keep them, the search for its place must pass them as it passes "
+                  "those that are shown.")
 SEVERAL_DELETED = ("Look at positions beside deleted elements: any {fewer} of {named} fit together, all {k} don't; perhaps an insert lost its place "
                    "because its neighbour was deleted elsewhere. The lines above say which elements each response no longer has.")
 SEVERAL_APART = ("Look at how a replica orders elements when it has only some of them: any {fewer} of {named} fit together, all {k} don't. An "
