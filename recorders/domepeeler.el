@@ -767,14 +767,14 @@ What is no name but an id gets a name that no other id has."
             (domepeeler--refuse "name \"%s\" is already used for the id \"%s\"" given (domepeeler--escaped had)))
           (unless had (domepeeler--keep recording given given))))
       given)
-     ((or (> (string-bytes given) domepeeler--bytes) (string-match-p "\\`[A-Za-z0-9_.@,-]+\\'" given))
+     ((or (> (string-bytes given) domepeeler--bytes) (string-match-p "\\`[A-Za-z0-9_.@,:/-]+\\'" given))
       (let ((name (domepeeler--become given)))
         (when (or (not name) (gethash name ids))
           (setq name (domepeeler--numbered recording given)))
         (domepeeler--keep recording name given)
         (puthash given name (domepeeler-recording-short recording))))
      (t
-      (domepeeler--refuse "name \"%s\" is not 1 to 32 of A-Z a-z 0-9 _ - . (an id may have @ and , too)" (domepeeler--escaped given))))))
+      (domepeeler--refuse "name \"%s\" is not 1 to 32 of A-Z a-z 0-9 _ - . (an id may have @ , : and / too)" (domepeeler--escaped given))))))
 
 (defun domepeeler--become (id)
   "The name that ID becomes if no other id has it; nil where only a number will do.
@@ -782,7 +782,7 @@ A letter stands first, as `2-0' would look like an operation's name."
   (if (> (string-bytes id) domepeeler--bytes)
       (and (string-match-p "\\`[0-9A-Fa-f]\\{8\\}\\(-[0-9A-Fa-f]\\{4\\}\\)\\{3\\}-[0-9A-Fa-f]\\{12\\}\\'" id)
            (replace-regexp-in-string "-" "" id))
-    (let ((name (concat (if (string-match-p "\\`[0-9]" id) "e" "") (replace-regexp-in-string "[@,]" "-" id))))
+    (let ((name (concat (if (string-match-p "\\`[0-9]" id) "e" "") (replace-regexp-in-string "[@,:/]" "-" id))))
       (and (<= (length name) domepeeler--bytes) name))))
 
 (defun domepeeler--numbered (recording given)

@@ -769,13 +769,13 @@ static inline int domepeeler_is_uuid(const char *id) {
     return !id[DOMEPEELER_UUID];
 }
 
-/* Puts what a short id with `@` or a comma becomes, if that is short enough, into the name: with a letter first, as `2-0` would look
+/* Puts what a short id with `@`, a comma, a colon or a slash becomes, if that is short enough, into the name: with a letter first, as `2-0` would look
  * like an operation's name. */
 static inline void domepeeler_translate(const char *id, char *name) {
     size_t first = id[0] >= '0' && id[0] <= '9', length = strlen(id);
     if (first + length > DOMEPEELER_BYTES) return;
     if (first) name[0] = 'e';
-    for (size_t i = 0; i <= length; i++) name[first + i] = id[i] == '@' || id[i] == ',' ? '-' : id[i];
+    for (size_t i = 0; i <= length; i++) name[first + i] = id[i] && strchr("@,:/", id[i]) ? '-' : id[i];
 }
 
 /* Makes a name for an id, which no other id has. */
@@ -811,7 +811,7 @@ static inline const char *domepeeler_own_name(struct domepeeler *d, const char *
 
 /* The name in the trace: what is given, or if that is no name but an id, a name that no other id has. NULL if refused. */
 static inline const char *domepeeler_name(struct domepeeler *d, const char *given) {
-    static const char *allowed = "@,ABCDEFGHIJKLMNOPQRSTUVWXYZabcdefghijklmnopqrstuvwxyz0123456789_-.";
+    static const char *allowed = "@,:/ABCDEFGHIJKLMNOPQRSTUVWXYZabcdefghijklmnopqrstuvwxyz0123456789_-.";
     if (!given) {
         domepeeler_refuse(d, 0, "a name is a string, not NULL");
         return NULL;
@@ -819,12 +819,12 @@ static inline const char *domepeeler_name(struct domepeeler *d, const char *give
     size_t length = strlen(given);
     char shown[sizeof d->why];
     int is_long = length > DOMEPEELER_BYTES, is_id = length && strspn(given, allowed) == length;
-    if (!is_long && is_id && strspn(given, allowed + 2) == length) return domepeeler_own_name(d, given);
+    if (!is_long && is_id && strspn(given, allowed + 4) == length) return domepeeler_own_name(d, given);
     if (is_long || is_id) {
         const struct domepeeler_id *one = domepeeler_find(d, given, 0);
         return one ? one->name : domepeeler_shorten(d, given);
     }
-    domepeeler_refuse(d, 0, "name \"%s\" is not 1 to 32 of A-Z a-z 0-9 _ - . (an id may have @ and , too)", domepeeler_escaped(given, shown, sizeof shown));
+    domepeeler_refuse(d, 0, "name \"%s\" is not 1 to 32 of A-Z a-z 0-9 _ - . (an id may have @ , : and / too)", domepeeler_escaped(given, shown, sizeof shown));
     return NULL;
 }
 

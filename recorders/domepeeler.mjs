@@ -34,7 +34,7 @@ const MOST_REPLICAS = 16, MOST_ENTRIES = 16384, MOST_INSERTS = 4096
 const MOST_NAMES = 4096, MOST_PLACES = 262144, MOST_POSITION = 4294967295
 const MOST_BYTES = 32
 const NAME = /^[A-Za-z0-9_.-]{1,32}$/
-const WITH_SIGNS = /^[A-Za-z0-9_.@,-]+$/ // an id that is translated
+const WITH_SIGNS = /^[A-Za-z0-9_.@,:/-]+$/ // an id that is translated
 const UUID = /^[0-9A-Fa-f]{8}(-[0-9A-Fa-f]{4}){3}-[0-9A-Fa-f]{12}$/
 const MOST_PRINTED = 1 << 28 // bytes: no report is as long
 const ONE_LOG = "one replica's log is no recording: merge the logs first"
@@ -590,8 +590,8 @@ export class Recording {
     }
     let name = UUID.test(given) ? given.replaceAll("-", "") : ""
     if (new TextEncoder().encode(given).length <= MOST_BYTES) {
-      if (!WITH_SIGNS.test(given)) throw new Refused(`name "${escaped(given)}" is not 1 to 32 of A-Z a-z 0-9 _ - . (an id may have @ and , too)`)
-      name = (/^[0-9]/.test(given) ? "e" : "") + given.replace(/[@,]/g, "-")
+      if (!WITH_SIGNS.test(given)) throw new Refused(`name "${escaped(given)}" is not 1 to 32 of A-Z a-z 0-9 _ - . (an id may have @ , : and / too)`)
+      name = (/^[0-9]/.test(given) ? "e" : "") + given.replace(/[@,:/]/g, "-")
     }
     if (!name || name.length > MOST_BYTES || this.#ids.has(name)) name = this.#numbered(given)
     this.#ids.set(name, given)

@@ -49,7 +49,7 @@ from typing import Any, Callable, Dict, Hashable, Iterable, List, Mapping, NoRet
 MOST_REPLICAS, MOST_ENTRIES, MOST_INSERTS = 16, 16384, 4096
 MOST_NAMES, MOST_PLACES, MOST_POSITION, MOST_BYTES = 4096, 262144, 4294967295, 32
 NAME = re.compile(r"[A-Za-z0-9_.-]{1,32}", re.ASCII)
-WITH_SIGNS = re.compile(r"[A-Za-z0-9_.@,-]+", re.ASCII)  # an id that is translated
+WITH_SIGNS = re.compile(r"[A-Za-z0-9_.@,:/-]+", re.ASCII)  # an id that is translated
 UUID = re.compile(r"[0-9A-Fa-f]{8}(-[0-9A-Fa-f]{4}){3}-[0-9A-Fa-f]{12}", re.ASCII)
 __tracebackhide__ = True  # pytest shows a refused call where the test makes it
 ONE_LOG = "one replica's log is no recording: merge the logs first"
@@ -577,8 +577,8 @@ class Recording:
         name = given.replace("-", "") if UUID.fullmatch(given) else ""
         if len(given.encode(errors="surrogatepass")) <= MOST_BYTES:
             if not WITH_SIGNS.fullmatch(given):
-                raise Refused(f'name "{_escaped(given)}" is not 1 to 32 of A-Z a-z 0-9 _ - . (an id may have @ and , too)')
-            name = ("e" if given[0].isdigit() else "") + given.replace("@", "-").replace(",", "-")
+                raise Refused(f'name "{_escaped(given)}" is not 1 to 32 of A-Z a-z 0-9 _ - . (an id may have @ , : and / too)')
+            name = ("e" if given[0].isdigit() else "") + re.sub("[@,:/]", "-", given)
         if not name or len(name) > MOST_BYTES or name in self._ids:
             name = self._numbered(given)
         self._ids[name] = given

@@ -66,6 +66,7 @@ const FAILED_TRACES: &str = "failed_traces"; // the folder of traces that were n
 const MOST_LINKS: usize = 40; // that are followed, one behind the other
 const MOST_NOTES: usize = 20;
 const MOST_LETTERS: usize = 200; // of a note
+const SIGNS: [char; 4] = ['@', ',', ':', '/']; // that an id may have, and no name
 const MOST_DELIVERED: usize = 100; // calls of `delivered` that the explainer is told of, the last ones
 const MOST_TRIES: usize = 100; // of saving where another process saves too
 const MOST_TOLD: usize = 5; // deletes, or inserts, that warnings tell one by one
@@ -118,7 +119,7 @@ impl Display for Refused {
             Refused::NotOfThisLog { replica, only } => {
                 write!(f, "this log is of replica {only} alone, not of {replica}")
             }
-            Refused::Name { name } => write!(f, "name \"{}\" is not 1 to 32 of A-Z a-z 0-9 _ - . (an id may have @ and , too)", escaped(name)),
+            Refused::Name { name } => write!(f, "name \"{}\" is not 1 to 32 of A-Z a-z 0-9 _ - . (an id may have @ , : and / too)", escaped(name)),
             Refused::ShortFor { name, id } => write!(f, "name \"{name}\" is already used for the id \"{}\"", escaped(id)),
             Refused::NoNumber { id } => {
                 write!(f, "one replica's log can't give the id \"{}\" a short name, ", escaped(id))?;
@@ -1706,15 +1707,15 @@ fn is_of_names(byte: u8) -> bool {
     byte.is_ascii_alphanumeric() || b"_-.".contains(&byte)
 }
 
-/// Whether it has the letters of names, and at least one `@` or comma.
+/// Whether it has the letters of names, and at least one sign that ids may have beside these.
 fn is_id(given: &str) -> bool {
-    given.contains(['@', ',']) && given.bytes().all(|byte| is_of_names(byte) || b"@,".contains(&byte))
+    given.contains(SIGNS) && given.chars().all(|letter| SIGNS.contains(&letter) || letter.is_ascii() && is_of_names(letter as u8))
 }
 
 /// What such an id becomes, if that is a name: with a letter first, as `2-0` would look like an operation's name.
 fn translated(given: &str) -> String {
     let first = if given.starts_with(|letter: char| letter.is_ascii_digit()) { "e" } else { "" };
-    first.to_string() + &given.replace(['@', ','], "-")
+    first.to_string() + &given.replace(SIGNS, "-")
 }
 
 /// Whether a note may have it: neither controls, nor what breaks a line or turns the direction of writing.

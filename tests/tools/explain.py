@@ -62,7 +62,7 @@ def stop(line: int, doing: str, *others: int, together: int = 0) -> str:
     doing += f"; if nothing is wrong there, stop at {'another arrival' if len(others) == 1 else 'other arrivals'} ({before})" if others else ""
     asked = f"if recording.lines() == {line - 1}: breakpoint()"
     where = "where your code reads the list" if "reads the list" in doing else "where your code begins to apply a change, local or remote"
-    or_first = f", or {together - 1} if the {line - together + 1} receipts up to there were written in one go" if together else ""
+    or_first = f", or {together - 1} if the {line - together + 1} `recv` lines up to there were written in one go" if together else ""
     asked = f"if recording.lines() in ({together - 1}, {line - 1}): breakpoint()" if together else asked
     where += f" (the recording has {line - 1} lines then{or_first})"
     return f"|In a debugger|stop before line {line} of the trace, where {doing}. In Python, put this {where}: {asked}"
@@ -83,10 +83,33 @@ WORDS = [
      "[b] before [a]: line 8, 1.2: replica 1 read the list, answered [b] [a]|"
      "a: inserted by 0.1 (line 3)|b: inserted by 1.1 (line 4)|"
      "b arrived at replica 0 in line 5, a at replica 1 in line 6|"
-     "Look at the order of concurrent inserts: a and b were inserted without knowing of each other, and were shown in two different orders. "
-     "Use a rule that gives the same order everywhere (such as the replicas' numbers), and not the order of arrival.|"
+     "Look at the order of concurrent inserts: a and b were inserted at the front without knowing of each other, and were shown in two different orders. "
+     "Use a rule that gives the same order everywhere (such as the replicas' numbers), and not the order of arrival. Does a shortcut, as for typing on, pass it by?|"
      "If the list is sorted by position identifiers, look at those of a and b: are the two equal, does one differ between replicas, or are numbers "
      "compared as text?" + stop(6, "replica 1 applies 0.1", 5)),
+    ("a replica that turns two elements round when it deletes another", 2, "0 ins a 0 : a|1 ins b 0 : b|1 recv 0 1|1 read : a b|1 ins c 2 : a b c|1 del c : b a",
+     "[b] before [a]: line 8, 1.4: replica 1 deleted c, answered [b] [a]|Where to look|"
+     "Replica 1 itself changed the order of elements that it had shown: a before b in 1.3 (line 7), b before a in 1.4 (line 8). Between the two it "
+     "deleted c. Look at what decides which of b and a comes first: that must be fixed once both are inserted, and may not hang on what is inserted, "
+     "deleted or received later." + stop(8, "replica 1 deletes c", 5)),
+    ("a replica that turns two elements round when others' changes come", 2, "0 ins a 0 : a|1 ins b 0 : b|1 recv 0 1|1 read : a b|0 ins c 1 : a c|0 del c : a|"
+     "1 recv 0 3|1 read : b a", "Where to look|"
+     "Replica 1 itself changed the order of elements that it had shown: a before b in 1.2 (line 6), b before a in 1.3 (line 10). Between the two it "
+     "received the insert of c by 0.2 (line 7) and the delete of c by 0.3 (line 8). Look at what decides which of b and a comes first: that must be "
+     "fixed once both are inserted, and may not hang on what is inserted, deleted or received later." + stop(9, "replica 1 applies 0.3", 5)),
+    ("an insert that turns two others round", 1, "0 ins a 0 : a|0 ins b 1 : a b|0 ins c 2 : b c a",
+     "line 5 of the trace, 0.3: replica 0 inserted c at position 2|before: [a] b by 0.2 (line 4)|answered: b [c] [a]|asked for: position 2; the answer has [a] there|"
+     "found at: position 1||Where to look|Replica 0 itself changed the order of elements that it had shown: a before b in 0.2 (line 4), b before a in 0.3 (line 5). "
+     "Between the two it inserted c. Look at what decides which of b and a comes first: that must be fixed once both are inserted, and may not hang on "
+     "what is inserted, deleted or received later.|If that is not the cause: look at how the position that a user sees is mapped to a place in the editor's "
+     "own list; and at whether the recorder writes the position that was asked for." + stop(5, "replica 0 inserts c")),
+    ("deletes that come together, of which the first finds nothing", 2, "0 ins a 0 : a|0 ins b 1 : a b|0 ins c 2 : a b c|1 recv 0 3|1 read : a b c|1 del a : b c|"
+     "0 del a : b c|0 del b : c|1 recv 0 5|1 read : b c", "Where to look|"
+     "0.4 (line 9) and 0.5 (line 10) were made one after the other, and came to replica 1 together; there a was deleted already, by 1.2 (line 8), and b is "
+     "still shown. If one change of your editor deletes both, it looks as if it was applied in part: look at what a replica does where one of several "
+     "elements is gone already; it must go on with the others.|It looks as if 0.5 (line 10) was not applied at replica 1: lost, or held back, or `received` is called "
+     "before the change is applied. Or it deleted another element, one that was already deleted there: look at how a replica that applies a delete finds the "
+     "element (is the whole id compared?)." + stop(11, "replica 1 applies 0.5")),
     ("an insert that had seen the other", 2, "0 ins a 0 : a|1 recv 0 1|1 ins b 1 : a b|0 recv 1 1|0 read : b a",
      "refused 2: two responses can't be right together.|"
      "[a] before [b]: line 5 of the trace, 1.1: replica 1 inserted b at position 1, answered [a] [b]|"
@@ -130,11 +153,11 @@ WORDS = [
      "1.2 (line 7) shows [c] between [a] and [b], which was put directly behind [a]; the author of [c] knew neither. If inserts find their place by a "
      "neighbour, look at how [c] found its place there: what is moved past [a] must also be moved past all that was put behind [a].|"
      "Look at the order of concurrent inserts: b and c were inserted without knowing of each other, and were shown in two different orders. Use a rule that "
-     "gives the same order everywhere (such as the replicas' numbers), and not the order of arrival."),
+     "gives the same order everywhere (such as the replicas' numbers), and not the order of arrival. Does a shortcut, as for typing on, pass it by?"),
     ("an insert behind what the other author did not know, which is deleted", 2, "0 ins a 0 : a|0 ins b 1 : a b|0 del a : b|1 ins c 0 : c|1 recv 0 3|"
      "1 read : c b|0 recv 1 1|0 read : b c", "Where to look|"
      "Look at the order of concurrent inserts: b and c were inserted without knowing of each other, and were shown in two different orders. Use a rule that "
-     "gives the same order everywhere (such as the replicas' numbers), and not the order of arrival.|"
+     "gives the same order everywhere (such as the replicas' numbers), and not the order of arrival. Does a shortcut, as for typing on, pass it by?|"
      "[b] was put directly behind [a]; the author of [c] did not know [a]. If inserts find their place by a neighbour, look at how [c] found its "
      "place: what is moved past [a] must also be moved past all that was put behind [a]."),
     ("an insert between two that are deleted by others", 3, "0 ins a 0 : a|0 ins b 1 : a b|1 recv 0 2|2 recv 0 2|2 ins c 1 : a c b|1 del a : b|"
@@ -176,7 +199,7 @@ WORDS = [
      "above name an insert that arrived where its neighbour had been deleted. If replicas throw deleted elements away, nothing says then where the insert belongs; if they keep them, the search for its place must pass them as it passes those that are shown.|"
      "For the verdict on the whole trace (below): look at the order of concurrent inserts: a and b were inserted without knowing of each other, and were shown in two "
      "different orders. Use a rule that gives the same order everywhere (such as the replicas' numbers), and not the order of "
-     "arrival.|For the verdict on the whole trace (below): if the editor sends positions, the position of b was perhaps not adjusted for the delete of x by 0.2 (line 8), which replica 1 "
+     "arrival. Does a shortcut, as for typing on, pass it by?|For the verdict on the whole trace (below): if the editor sends positions, the position of b was perhaps not adjusted for the delete of x by 0.2 (line 8), which replica 1 "
      "knew and the author of b did not; or the position of the delete was not adjusted for an insert that its author had not seen.|"
      "" + stop(10, "replica 0 applies 2.1", 9, 5, 4, together=9) + "||What the whole trace shows: a circle, which no order allows|"
      "[a] before [b]: line 14, 1.2: replica 1 read the list, answered [a] [b]|"
@@ -307,7 +330,7 @@ WORDS = [
      "in the editor's own list; and at whether the recorder writes the position that was asked for." + stop(6, "replica 1 inserts c")),
     ("a position before the one that was asked for, beside a deleted element", 1, "0 ins a 0 : a|0 ins b 1 : a b|0 del a : b|0 ins c 1 : c b",
      "asked for: position 1; the answer has [b] there|found at: position 0||Where to look|"
-     "Look at how the position that a user sees is mapped to a place in the editor's own list, where deleted elements may still stand; and "
+     "Look at how the position that a user sees is mapped to a place in the editor's own list (deleted elements may still stand there); and "
      "at whether the recorder writes the position that was asked for.|If the list is sorted by position identifiers, print those of b and c at line 6. If they do not rise in this order, look at how the "
      "one of c was made; if they do, at how identifiers are compared (numbers must not be compared as text)." + stop(6, "replica 0 inserts c")),
     ("a second delete of one element takes its neighbour", 2, "0 ins a 0 : a|0 ins b 1 : a b|1 recv 0 2|1 read : a b|0 del a : b|1 del a : b|"
@@ -355,8 +378,8 @@ WORDS = [
      "1 read : a c y d|1 recv 0 5|1 read : a c y d e",
      "Look first at whether 0.2 (line 4) was lost on its way to replica 1, or overtaken: no receipt there names it, though all other changes of "
      "replica 0 have one. In an editor that sends positions, later changes then land in the wrong place.|"
-     "Look at the order of concurrent inserts: c and y were inserted without knowing of each other, and were shown in two different orders. Use a "
-     "rule that gives the same order everywhere (such as the replicas' numbers), and not the order of arrival."),
+     "Look at the order of concurrent inserts: c and y were inserted directly behind a without knowing of each other, and were shown in two different orders. Use a "
+     "rule that gives the same order everywhere (such as the replicas' numbers), and not the order of arrival. Does a shortcut, as for typing on, pass it by?"),
     ("a delete that meets an insert and a delete which did not know each other", 2, "0 ins a 0 : a|0 ins b 1 : a b|0 ins c 2 : a b c|1 recv 0 3|"
      "1 read : a b c|0 del a : b c|1 ins d 3 : a b c d|0 recv 1 2|0 read : b c d|1 del c : a b d|0 recv 1 3|0 read : b c",
      "It looks as if 1.3 (line 12), applied at replica 0, deleted d instead of c: look at how a replica that applies a delete finds the element, and at whether the recorder "
@@ -1116,7 +1139,7 @@ def places(tally: Tally, program: str, folder: str) -> None:
     for name, wanted in FOR_TWO.items():
         got = explain(program, ["--language", name, "-"], text_of(2, "0 ins a 0 : a|0 ins b 1 : a b|1 recv 0 1|1 recv 0 2|1 read : a").encode()).out.decode()
         tally.check(f"a debugger: {name}, receipts that stand together", paragraph(got, "In a debugger").endswith(
-            f"(the recording has 5 lines then, or 4 if the 2 receipts up to there were written in one go): {wanted}"), got)
+            f"(the recording has 5 lines then, or 4 if the 2 `recv` lines up to there were written in one go): {wanted}"), got)
     undelivered(tally, program, folder)
     path.write_text(text_of(2, PLACED))
     for beside, wanted in NOTES:
@@ -1937,6 +1960,9 @@ def small(tally: Tally, program: str, folder: str) -> None:
             stops, (stops_said, is_right) = stops_of(meant, meant_report), stops_told(told)
             tally.check("refused: where elements arrived", is_right and sorted(stops_said) == stops, f"{whole}{stops}\n{got}")
             stop_lines = sorted({line for line, *_ in stops}, reverse=True) or [len(meant.splitlines())]
+            turned = turned_at(meant, meant_report)
+            stop_lines = [turned, *(line for line in stop_lines if line != turned)] if turned else stop_lines
+            wrong["turned"] += bool(turned)
             stopped = paragraph(said, "In a debugger").partition(" In Python,")[0]
             tally.check("refused: where to stop a debugger", [int(line) for line in re.findall(r"\bline (\d+)", stopped)] == stop_lines,
                         f"{whole}{stops}\n{got}")
@@ -1957,9 +1983,28 @@ def small(tally: Tally, program: str, folder: str) -> None:
     tally.check("refused: beside deleted elements in some of them", wrong["beside"] > SMALL["refused"] / 4, wrong)
     tally.check("a fault: sooner in some of them", wrong["sooner"] >= 5, wrong)
     tally.check("refused: beside elements that are deleted later, in some of them", wrong["hidden"] > 0, wrong)
+    tally.check("refused: a replica turned two elements round, in some of them", wrong["turned"] > 5, wrong)
     tally.check("refused: a line and steps told in some of them", wrong["line"] > SMALL["refused"] / 8 and wrong["steps"] > 2, wrong)
     tally.check("refused: elements arrived in most of them", sum(arriving[count] for count in arriving if count > 1) > SMALL["refused"] / 2,
                 arriving)
+
+
+def turned_at(text: str, report: dict) -> int:
+    """Where the replica that answers last in a trace that is refused for two shows two elements, which it had shown before, in the other order:
+    the line of that answer, where it is a change, or else of the last receipt before it since that; 0 where there is none."""
+    lines = text.splitlines()
+    replica, kind = lines[-1].split()[:2]
+    if report["k"] != 2 or kind in ("recv", "view"):
+        return 0
+    earlier = [number for number, line in enumerate(lines[:-1], 1) if number > 2 and line.split()[0] == replica and line.split()[1] in ("ins", "del", "read")]
+    if not earlier:
+        return 0
+    before, after = (lines[number - 1].partition(":")[2].split() for number in (earlier[-1], len(lines)))
+    both = [name for name in after if name in before]
+    if both == sorted(both, key=before.index):
+        return 0
+    received = [number for number in range(earlier[-1] + 1, len(lines)) if lines[number - 1].split()[:2] == [replica, "recv"]]
+    return len(lines) if kind != "read" else received[-1] if received else 0
 
 
 def kept_more(tally: Tally) -> None:

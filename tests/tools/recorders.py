@@ -59,7 +59,7 @@ CYCLE_REPORT = {
               {"from": "b", "response": ["b", "a"], "shown": "0.3", "to": "a"},
               {"from": "a", "response": ["a", "x"], "shown": "1.1", "to": "x"}]}
 
-NAME = "is not 1 to 32 of A-Z a-z 0-9 _ - . (an id may have @ and , too)"
+NAME = "is not 1 to 32 of A-Z a-z 0-9 _ - . (an id may have @ , : and / too)"
 LETTERS32 = "abcdefghijklmnopqrstuvwxyz_-.019"
 UUID, UUID_DIGITS = "123e4567-e89b-12d3-a456-426614174000", "123e4567e89b12d3a456426614174000"
 ALMOST_UUIDS = ["123e4567-e89b-12d3-a456-42661417400g", "123e4567e-89b-12d3-a456-426614174000", "123e4567_e89b_12d3_a456_426614174000"]
@@ -108,8 +108,8 @@ SAID = [
     ("numbers that names have", f"new 1 -> ok\ninsert 0 long1 0 -> ok 1\nread 0 {LETTERS32}x -> ok 2\n"
      f"read 0 long2 -> refused name \"long2\" is already used for the id \"{LETTERS32}x\"\nread 0 longer -> ok 3\n",
      ["0 ins long1 0 :", "0 read : long2", "0 read : longer"]),
-    ("a refused call keeps no number", f"new 1 -> ok\nread 0 {LETTERS32}x a:b -> refused name \"a:b\" {NAME}\nid_of long1 -> none\n"
-     f"read 0 long1 {LETTERS32}y a:b -> refused name \"a:b\" {NAME}\nread 0 {LETTERS32}z {UUID} -> ok 1\n"
+    ("a refused call keeps no number", f"new 1 -> ok\nread 0 {LETTERS32}x a;b -> refused name \"a;b\" {NAME}\nid_of long1 -> none\n"
+     f"read 0 long1 {LETTERS32}y a;b -> refused name \"a;b\" {NAME}\nread 0 {LETTERS32}z {UUID} -> ok 1\n"
      f"id_of long1 -> ok {LETTERS32}z\n", [f"0 read : long1 {UUID_DIGITS}"]),
     ("one replica's log numbers no ids", f"new 3 1 -> ok\nread 1 {UUID} -> ok 1\n"
      f"read 1 {LETTERS32}x -> refused {ONE_NUMBER.format(LETTERS32 + 'x')}\nread 1 {UUID.upper()} -> ok 2\n",
@@ -118,6 +118,9 @@ SAID = [
      "delete 1 2@alice b,0@c.d -> ok 2\nview 0 @ -> ok 2\nid_of e2-alice -> ok 2@alice\nid_of b-0-c.d -> ok b,0@c.d\nid_of - -> ok @\n"
      "id_of 2@alice -> none\n",
      ["0 ins e2-alice 0 : e2-alice", "1 ins b-0-c.d 0 : e2-alice b-0-c.d", "1 del e2-alice : b-0-c.d", "0 view : -"]),
+    ("ids with colons and slashes", "new 1 -> ok\ninsert 0 alice:7 0 alice:7 -> ok 1\nread 0 alice:7 7:a/b :: / -> ok 2\nread 0 alice-7 -> refused name "
+     "\"alice-7\" is already used for the id \"alice:7\"\nread 0 :/ -> ok 3\nid_of alice-7 -> ok alice:7\nid_of e7-a-b -> ok 7:a/b\nid_of long5 -> ok :/\n",
+     ["0 ins alice-7 0 : alice-7", "0 read : alice-7 e7-a-b -- -", "0 read : long5"]),
     ("two ids that come to one name", "new 1 -> ok\nread 0 a@b a,b -> ok 1\nread 0 a,b a@b -> ok 2\nid_of long2 -> ok a,b\n",
      ["0 read : a-b long2", "0 read : long2 a-b"]),
     ("an id whose translation is another's name", "new 1 -> ok\ninsert 0 e2-alice 0 -> ok 1\nread 0 2@alice e2-alice -> ok 2\n"
@@ -128,8 +131,8 @@ SAID = [
     ("an id that is too long when it is translated", f"new 1 -> ok\ninsert 0 1{LETTERS32[:30]}@ 0 {LETTERS32[:31]}@ -> ok 1\n"
      f"id_of long1 -> ok 1{LETTERS32[:30]}@\n", [f"0 ins long1 0 : {LETTERS32[:31]}-"]),
     ("long ids behind a translated one", f"new 1 -> ok\nread 0 a@b {LETTERS32}x -> ok 1\n", ["0 read : a-b long2"]),
-    ("a refused call keeps no translation", f"new 1 -> ok\nread 0 a@b a:b -> refused name \"a:b\" {NAME}\nid_of a-b -> none\n"
-     f"read 0 c-d a:b -> refused name \"a:b\" {NAME}\nread 0 a-b c@d -> ok 1\nid_of c-d -> ok c@d\n", ["0 read : a-b c-d"]),
+    ("a refused call keeps no translation", f"new 1 -> ok\nread 0 a@b a;b -> refused name \"a;b\" {NAME}\nid_of a-b -> none\n"
+     f"read 0 c-d a;b -> refused name \"a;b\" {NAME}\nread 0 a-b c@d -> ok 1\nid_of c-d -> ok c@d\n", ["0 read : a-b c-d"]),
     ("a long id of odd letters", f"new 1 -> ok\nread 0 {ODD_ID} -> ok 1\n"
      f'read 0 long1 -> refused name "long1" is already used for the id "{ODD_SHOWN}"\n', ["0 read : long1"]),
     ("a long id of odd letters in one replica's log", f"new 3 1 -> ok\nread 1 {ODD_ID} -> refused {ONE_NUMBER.format(ODD_SHOWN)}\n", []),
@@ -161,7 +164,7 @@ DELIVERED = [
      f"delivered a -> {NOT_DELIVERED.format(3, 1)}\ndelivered a / a -> {NOT_DELIVERED.format(3, 2)}\n"
      f"delivered a / a / a / a -> {NOT_DELIVERED.format(3, 4)}\nlines -> ok 3\n", ["0 ins a 0 : a"]),
     ("a list with what is no name", "new 2 -> ok\ninsert 0 a 0 a -> ok 1\n"
-     f"delivered {LETTERS32}x c@d / a:b -> refused name \"a:b\" {NAME}\nlines -> ok 3\nid_of long1 -> none\nid_of c-d -> none\nclock 1 -> ok 0 0\nread 0 {LETTERS32}y c-d -> ok 2\n"
+     f"delivered {LETTERS32}x c@d / a;b -> refused name \"a;b\" {NAME}\nlines -> ok 3\nid_of long1 -> none\nid_of c-d -> none\nclock 1 -> ok 0 0\nread 0 {LETTERS32}y c-d -> ok 2\n"
      f"id_of long1 -> ok {LETTERS32}y\nreceived 1 0 3 -> refused 0.3 cannot have arrived: replica 0 has 2 operations so far\n"
      "delivered / -> ok\n", ["0 ins a 0 : a", "0 read : long1 c-d", "0 read :", "1 recv 0 1", "1 read :"]),
     ("one replica's log", "new 2 1 -> ok\ninsert 1 a 0 a -> ok 1\n"
@@ -254,7 +257,7 @@ CHANGES = [
     ("odd letters in an id", "new 2 -> ok\nas ##a%1B insert 0 a 0 a -> ok 1\n"
      'as ##a%1B insert 1 b 0 b -> refused the id "\\x23#a\\x1b" is that of 0.1 already\n'
      'received_changes 1 ::%0A%C3%A4 -> refused no change with the id "\\x3a:\\x0a\\xc3\\xa4" has been recorded\n', ["0 ins a 0 : a"]),
-    ("a refused call gives no id", 'new 2 -> ok\nas x insert 0 a 0 a:b -> refused name "a:b" ' + NAME + "\n"
+    ("a refused call gives no id", 'new 2 -> ok\nas x insert 0 a 0 a;b -> refused name "a;b" ' + NAME + "\n"
      'received_changes 1 x -> refused no change with the id "x" has been recorded\nas x insert 1 a 0 a -> ok 1\n', ["1 ins a 0 : a"]),
     ("one replica's log", "new 2 1 -> ok\nas x insert 1 a 0 a -> ok 1\nreceived_changes 1 x -> refused "
      "one replica's log does not know the changes of the others: send each operation's number, and call received\n", ["1 ins a 0 : a"]),
@@ -300,7 +303,7 @@ REFUSED = [
     ("an own operation that is not there", "new 2 -> ok\n"
      "received 0 0 5 -> refused replica 0 receives no operation of its own\n"),
     ("a view at replica 2 of 2, a name that is none in one, and then none",
-     f"new 2 -> ok\nview 2 -> refused no replica 2 among 0 to 1\nview 0 a:b -> refused name \"a:b\" {NAME}\n"),
+     f"new 2 -> ok\nview 2 -> refused no replica 2 among 0 to 1\nview 0 a;b -> refused name \"a;b\" {NAME}\n"),
     ("a view in another's log", "new 3 1 -> ok\nview 0 -> refused this log is of replica 1 alone, not of 0\n"),
     ("another replica in one's log",
      "new 3 1 -> ok\nread 0 -> refused this log is of replica 1 alone, not of 0\n"
@@ -312,10 +315,10 @@ REFUSED = [
 ] + [
     (f"the name {word!r}", f'new 1 -> ok\ninsert 0 {word} 0 b -> refused name "{shown}" {NAME}\n'
      f'delete 0 {word} -> refused name "{shown}" {NAME}\nread 0 b {word} -> refused name "{shown}" {NAME}\n')
-    for word, shown in [("(empty)", ""), ("a%20b", "a b"), ("a:1", "a:1"), ("%C3%A4", "\\xc3\\xa4"), ("a%0D", "a\\x0d"), ("a,%20@", "a, @"),
+    for word, shown in [("(empty)", ""), ("a%20b", "a b"), ("a;1", "a;1"), ("%C3%A4", "\\xc3\\xa4"), ("a%0D", "a\\x0d"), ("a,%20@", "a, @"),
                         ("2@%C3%A4", "2@\\xc3\\xa4"), ("2@alice%0D", "2@alice\\x0d"), ("a%0A::error::%1B[2Jb%7F", "a\\x0a::error::\\x1b[2Jb\\x7f"),
-                        ("::error::a", "\\x3a:error::a"), ("%20%20::a", "  \\x3a:a"), ("##vso[a]", "\\x23#vso[a]"), ("%20##a", " \\x23#a"),
-                        (":a", ":a"), ("%20#a", " #a"), (":#a", ":#a"), ("~%20!", "~ !"), ("%C2%85%E2%80%A8", "\\xc2\\x85\\xe2\\x80\\xa8")]
+                        ("::error::a;", "\\x3a:error::a;"), ("%20%20::a", "  \\x3a:a"), ("##vso[a]", "\\x23#vso[a]"), ("%20##a", " \\x23#a"),
+                        (":a;", ":a;"), ("%20#a", " #a"), (":#a", ":#a"), ("~%20!", "~ !"), ("%C2%85%E2%80%A8", "\\xc2\\x85\\xe2\\x80\\xa8")]
 ]
 
 # The same, where a typed language can't say the call.
@@ -684,13 +687,13 @@ CALL_REFUSED = "a call was refused, so what it says is not recorded: "
 CALLS_REFUSED = "calls were refused, so what they say is not recorded; the first: "
 NEVER_CAME = "a call was refused, and what it says never came: "
 ONE_LIST = "delivered takes one list for each of the 2 replicas, not 1"
-TWO_DELIVERIES = ["new 2", "insert 0 a 0 a", "delivered a / a", "note seed%2017", "delivered a", "read 0 a", "delivered a / a:b",
+TWO_DELIVERIES = ["new 2", "insert 0 a 0 a", "delivered a / a", "note seed%2017", "delivered a", "read 0 a", "delivered a / a;b",
                   "delivered a / a"]
 RANGES = [("of two calls, and none of one that is refused", TWO_DELIVERIES, [(4, 6), (8, 9)], 9, [f"2 {CALLS_REFUSED}{ONE_LIST}"]),
           ("of a call where nothing was recorded", ["new 3", "delivered / /"], [(3, 5)], 5, []),
           ("of 102 calls", ["new 1", "read 0", *["delivered"] * 102], [(line, line) for line in range(4, 106)], 105, []),
           ("where there is no such call", ["new 2", "insert 0 a 0 a", "received 1 0 1", "read 1 a"], [], 5, []),
-          ("where each is refused", ["new 2", "read 0", "delivered", "delivered a:b /", "delivered / / /"], [], 3, [f"3 {CALLS_REFUSED}{ONE_LIST}"]),
+          ("where each is refused", ["new 2", "read 0", "delivered", "delivered a;b /", "delivered / / /"], [], 3, [f"3 {CALLS_REFUSED}{ONE_LIST}"]),
           ("in one replica's log", ["new 2 1", "read 1", "delivered /"], [], 3,
            [f"{CALL_REFUSED}one replica's log can't say that everything has arrived: the others are recorded elsewhere"])]
 
@@ -723,7 +726,7 @@ AT_0 = (f"{NEVER_CAME}not causal: 1.2 was applied at replica 0 before 1.1, which
         "update: perhaps it was lost, or only the call for it is missing; if the update carried more than one change, say how many "
         "(`changes`)")
 AT_2 = AT_0.replace("at replica 0", "at replica 2")
-NO_NAME = 'name "a:b" is not 1 to 32 of A-Z a-z 0-9 _ - . (an id may have @ and , too)'
+NO_NAME = 'name "a;b" is not 1 to 32 of A-Z a-z 0-9 _ - . (an id may have @ , : and / too)'
 REFUSALS = [("none", ["received 0 1 2"], []),
             ("what is not causal, and never came", [SECOND_FIRST, "received 0 2 1"], [AT_0]),
             ("what came then", [SECOND_FIRST, FIRST, SECOND_FIRST], []),
@@ -734,8 +737,8 @@ REFUSALS = [("none", ["received 0 1 2"], []),
             ("of two replicas", [SECOND_FIRST.replace("0 1 1", "2 1 1"), SECOND_FIRST], [AT_0]),
             ("what delivered writes of", [SECOND_FIRST, "delivered a b c / a b c / a b c"], [AT_0]),
             ("what delivered writes of, and comes again", [SECOND_FIRST, "delivered a b c / a b c / a b c", "received 0 1 2"], [AT_0]),
-            ("one that no trace can say", ["read 0 a:b", "received 0 1 2"], [CALL_REFUSED + NO_NAME]),
-            ("several", ["read 0 a:b", "received 0 0 1", SECOND_FIRST], [f"2 {CALLS_REFUSED}{NO_NAME}", AT_0]),
+            ("one that no trace can say", ["read 0 a;b", "received 0 1 2"], [CALL_REFUSED + NO_NAME]),
+            ("several", ["read 0 a;b", "received 0 0 1", SECOND_FIRST], [f"2 {CALLS_REFUSED}{NO_NAME}", AT_0]),
             ("of calls that record nothing", ["note a%0Ab", "clock 9"], []),
             ("at a limit", [f"read 0 {' '.join(ELEMENTS)}"], [])]
 
@@ -2881,7 +2884,7 @@ static const char *list[1];
 {{wrapper}}
 int main(void) {{{{
     recording = domepeeler_new(2);
-    const char *const *lists[] = {{{{list, (const char *[]){{{{"a:b"}}}}}}}}; /* which is no name */
+    const char *const *lists[] = {{{{list, (const char *[]){{{{"a;b"}}}}}}}}; /* which is no name */
     size_t names[] = {{{{1, 1}}}};
 #line 7 "editor.y"
     typed("a");

@@ -30,6 +30,9 @@ NOT_APPLIED = ("It looks as if {changes} {were} not applied at replica {replica}
                "change is applied.{other}")
 OTHER_DELETE = (" Or it deleted another element, one that was already deleted there: look at how a replica that applies a delete finds the element (is the "
                 "whole id compared?).")
+IN_PART = ("{first} and {then} were made one after the other, and came to replica {replica} together; there {element} was deleted already, by {gone}, and {surplus} "
+           "{is_} still shown. If one change of your editor deletes both, it looks as if it was applied in part: look at what a replica does where one of "
+           "several elements is gone already; it must go on with the others.")
 BROUGHT = ("No receipt at replica {replica} names {changes}: {they} as arrived with {brought}, in line {line}. If you record a receipt for each change, "
            "{names} {were} lost, or {brought} overtook {them}.")
 LOST = ("Look first at whether {changes} {were} lost on {their} way to replica {replica}, or overtaken: no receipt there names {them}, though {others}. "
@@ -60,6 +63,9 @@ IDENTIFIERS = ("If the list is sorted by position identifiers, print those of {n
                "one of {element} was made; if they do, at how identifiers are compared (numbers must not be compared as text).")
 SORTED = ("If the list is sorted by position identifiers, look at those of {names}: are {two} equal, does one differ between "
           "replicas, or are numbers compared as text?")
+REORDERED = ("Replica {replica} itself changed the order of elements that it had shown: {one} before {two} in {before}, {two} before {one} in {after}. Between the two "
+             "it {did}. Look at what decides which of {two} and {one} comes first: that must be fixed once both are inserted, and may not hang on what is inserted, "
+             "deleted or received later.")
 MAPPING = ("Look at how the position that a user sees is mapped to a place in the editor's own list{deleted}; and at whether the "
            "recorder writes the position that was asked for.")
 NUMBERS = ("If the editor decides by numbers (a clock, ids) which of two inserts at one place comes first, look at these: {element} stands behind "
@@ -79,9 +85,9 @@ BETWEEN = ("{operation} shows [{other}] between [{behind}] and [{element}], whic
            "find their place by a neighbour, look at how [{other}] found its place there: what is moved past [{behind}] must also be moved past all that was put behind [{behind}].")
 BEHIND_UNKNOWN = ("[{element}] was put directly behind [{behind}]; the author of [{other}] did not know [{behind}]. If inserts find their place by a neighbour, look at how "
                   "[{other}] found its place: what is moved past [{behind}] must also be moved past all that was put behind [{behind}].")
-CONCURRENT = ("Look at the order of concurrent inserts: {first} and {then} were inserted without knowing of each other, and were shown "
+CONCURRENT = ("Look at the order of concurrent inserts: {first} and {then} were inserted{place} without knowing of each other, and were shown "
               "in two different orders. Use a rule that gives the same order everywhere (such as the replicas' numbers), and not the order of "
-              "arrival.")
+              "arrival. Does a shortcut, as for typing on, pass it by?")
 POSITIONS = ("Look at how a position is adjusted where a change arrives: the position of {element} was perhaps not adjusted for {changes}, which "
              "replica {replica} knew and the author of {element} did not{back}. Or look at the order of concurrent inserts: {first} and {then} were inserted without knowing of each "
              "other, and were shown in two different orders. Use a rule that gives the same order everywhere (such as the replicas' numbers).")
@@ -120,8 +126,8 @@ def otherwise(condition: str, look: str) -> str:
 def of_contents(evidence: Evidence) -> list:
     if evidence.undelivered:
         return [undelivered(evidence)]
-    found = [*applied_twice(evidence), *wrong_delete(evidence, evidence.operations[0]), *second_delete(evidence), *overtaken(evidence), *lost_neighbour(evidence)]
-    more = unlike_receipts(evidence) if not found or all(cause.name == "lost neighbour" for cause in found) else []
+    found = [*applied_twice(evidence), *in_part(evidence), *wrong_delete(evidence, evidence.operations[0]), *second_delete(evidence), *overtaken(evidence), *lost_neighbour(evidence)]
+    more = unlike_receipts(evidence) if all(cause.name in ("lost neighbour", "applied in part") for cause in found) else []
     is_loss_first = is_loss_likelier(evidence, found or more)
     found += more
     found = [*lost(evidence), *found] if is_loss_first else [*found, *lost(evidence)]
@@ -138,6 +144,16 @@ def applied_twice(evidence: Evidence) -> list:
         return []
     back = OWN_BACK if all(insert.replica == replica for insert in inserts) else ""
     return [Cause("applied twice", APPLIED_TWICE.format(replica=replica, back=back, **changes_told(inserts)))]
+
+
+def in_part(evidence: Evidence) -> list:
+    """Of deletes that came together, of which the first had nothing to delete, and what came behind it was not applied."""
+    if evidence.in_part is None:
+        return []
+    change, other, gone = evidence.in_part
+    told = IN_PART.format(first=at(other), then=at(change), replica=evidence.operations[0].replica, element=other.element, gone=at(gone),
+                          surplus=listed(evidence.surplus, MOST_TOLD), is_="are" if evidence.surplus[1:] else "is")
+    return [Cause("applied in part", told)]
 
 
 def undelivered(evidence: Evidence) -> Cause:
@@ -273,7 +289,10 @@ def of_position(evidence: Evidence) -> list:
     response, name = operation.response, operation.element
     asked = place_asked(operation, response)
     has_delete = any(operation.has_seen(delete) for deletes in evidence.recording.deletes.values() for delete in deletes)
-    mapped = MAPPING.format(deleted=", where deleted elements may still stand" if has_delete else "")
+    mapped = MAPPING.format(deleted=" (deleted elements may still stand there)" if has_delete else "")
+    first = reordered(evidence)
+    if first:
+        return [*first, Cause("mapping", otherwise("If that is not the cause", mapped))]
     others = [other for other in response if other != name]
     at_most = min(operation.at, len(others))
     sorted_by = identifiers(operation, others[max(at_most - 1, 0):at_most], others[at_most:at_most + 1])
@@ -283,6 +302,22 @@ def of_position(evidence: Evidence) -> list:
     theirs = "theirs" if passed[1:] else f"that of {passed[0]}"
     return [Cause("numbers", NUMBERS.format(element=name, passed=listed(passed, MOST_TOLD), replica=operation.replica, theirs=theirs)),
             *sorted_by, Cause("mapping", otherwise("If neither fits your editor" if sorted_by else "If that does not fit your editor", mapped))]
+
+
+def reordered(evidence: Evidence) -> list:
+    """That a replica showed two elements in one order, and then in the other."""
+    if evidence.reordered is None:
+        return []
+    two, one, before, after = evidence.reordered
+    came = evidence.came_between(before, after)
+    done = [f"received {named(came)}"] if came else []
+    if after.kind == "ins":
+        done.append(f"inserted {after.element}")
+    if after.kind == "del":
+        others = [delete.element for delete in evidence.made_before(after)]
+        done.append(f"deleted {after.element}" + (f" (directly after {listed(others, MOST_TOLD)})" if others else ""))
+    return [Cause("reordered", REORDERED.format(replica=after.replica, one=one, two=two, before=at(before), after=at(after),
+                                                did=joined(done) or "received no change"))]
 
 
 def identifiers(insert: Operation, before: list, behind: list) -> list:
@@ -327,21 +362,29 @@ def of_refusal(evidence: Evidence, weak: bool) -> list:
         moved = moved_over(evidence)
         if weak and moved:
             told = (EITHER if are_put_at_once(first, then) else POSITIONS).format(first=first.element, then=then.element, **moved)
-            return [*lost(evidence), *came_between(evidence), Cause("concurrent", told), *beside_deleted(evidence)]
-        concurrent = [Cause("concurrent", CONCURRENT.format(first=first.element, then=then.element)), *behind_unknown(evidence, first, then)]
+            return [*lost(evidence), *reordered(evidence), *came_between(evidence), Cause("concurrent", told), *beside_deleted(evidence)]
+        concurrent = [Cause("concurrent", CONCURRENT.format(first=first.element, then=then.element, place=place_of_both(first, then))), *behind_unknown(evidence, first, then)]
         causes = [concurrent, beside_deleted(evidence)]
         is_deleted_first = evidence.lost_neighbours and not are_put_at_once(first, then)
-        return [*lost(evidence), *came_between(evidence), *sum(causes[::-1] if is_deleted_first else causes, []), sorted_alike(evidence), *moved_insert(moved)]
+        return [*lost(evidence), *reordered(evidence), *came_between(evidence), *sum(causes[::-1] if is_deleted_first else causes, []), sorted_alike(evidence), *moved_insert(moved)]
     later, old = (first, then) if first.has_seen(then) else (then, first)
     moved = moved_over(evidence)
     told = SEEN.format(author=later.replica, later=later.name, line=later.line, new=later.element, old=old.element,
                        numbers="" if weak and moved else NUMBERS_OF_INSERTS)
     told += put_meanwhile(evidence, later) or put_meanwhile(evidence, old)
     if weak and moved:
-        return [*lost(evidence), Cause("seen", told), *moved_insert(moved), *beside_deleted(evidence)]
+        return [*lost(evidence), *reordered(evidence), Cause("seen", told), *moved_insert(moved), *beside_deleted(evidence)]
     place = later.response.index(later.element)
     sorted_by = identifiers(later, later.response[max(place - 1, 0):place], later.response[place + 1:place + 2])
-    return [*lost(evidence), *beside_deleted(evidence), Cause("seen", told), *sorted_by, *moved_insert(moved)]
+    return [*lost(evidence), *reordered(evidence), *beside_deleted(evidence), Cause("seen", told), *sorted_by, *moved_insert(moved)]
+
+
+def place_of_both(first: Operation, then: Operation) -> str:
+    """Behind or before which element both were put, or that they were put at the front, for a sentence; else nothing."""
+    (behind, before), (other_behind, other_before) = neighbours(first), neighbours(then)
+    if behind == other_behind:
+        return f" directly behind {behind}" if behind else " at the front"
+    return f" directly before {before}" if before and before == other_before else ""
 
 
 def moved_insert(moved: dict) -> list:

@@ -36,7 +36,7 @@ def stop_of(evidence: Evidence) -> tuple:
         arrived = {arrival.receipt.line: arrival.receipt for arrival in evidence.arrivals
                    if not evidence.recording.is_delivered(arrival.receipt.line)}
         *others, entry = list(arrived.values()) or [max(evidence.operations, key=lambda operation: operation.line)]
-        first = came_between(evidence)
+        first = reordering(evidence) or came_between(evidence)
         return (first, [other for other in [entry, *others[::-1]] if other.line != first.line]) if first else (entry, others[::-1])
     named = evidence.operations[0]
     if evidence.report["verdict"] == "contents" and evidence.undelivered:
@@ -50,6 +50,17 @@ def stop_of(evidence: Evidence) -> tuple:
         received = [] if added and not left_out else evidence.before(named)[1]  # where a receipt is missing, none of these is at fault
         return [*second, *overtaking, *not_applied, *received, named][0], []
     return named, []
+
+
+def reordering(evidence: Evidence) -> Operation | Receipt | None:
+    """Where a replica changed the order of what it had shown: the later of the two responses, if that is a change, or its last receipt between
+    them, if there is one."""
+    if evidence.reordered is None:
+        return None
+    *_, before, after = evidence.reordered
+    received = [receipt for receipt in evidence.recording.receipts[after.replica]
+                if before.n <= receipt.before < after.n and not evidence.recording.is_delivered(receipt.line)]
+    return after if after.element else received[-1] if received else None
 
 
 def came_between(evidence: Evidence) -> Receipt | None:
@@ -82,7 +93,7 @@ def statement(recording: Recording, entry: Operation | Receipt, language: str) -
     first = first_together(recording, entry)
     then, asked = f"the recording has {entry.line - 1} lines then", words.format(entry.line - 1)
     if first < entry.line:
-        then += f", or {first - 1} if the {entry.line - first + 1} receipts up to there were written in one go"
+        then += f", or {first - 1} if the {entry.line - first + 1} `recv` lines up to there were written in one go"
         asked = FOR_TWO[language].format(first - 1, entry.line - 1)
     return f" In {name}, put this {READS if is_read else BEGINS} ({then}): {asked}"
 

@@ -8,7 +8,7 @@ from collections.abc import Iterator
 from functools import cached_property
 from typing import NamedTuple
 
-from .recordings import Operation, Receipt, Recording, place_asked
+from .recordings import FIRST_ENTRY, Operation, Receipt, Recording, place_asked
 from .telling import FIRST_STEPS, LAST_STEPS, MOST_STEPS
 
 MOST_ASTRAY = 20  # changes that may have been lost that are looked at
@@ -111,6 +111,51 @@ class Evidence:
     def _name(self, operation: Operation, marks: list) -> None:
         self.operations.append(operation)
         self.marks.setdefault(operation.name, []).extend(marks)
+
+    @cached_property
+    def reordered(self) -> tuple | None:
+        """Of wrong positions, and of a refusal of two, two elements that the replica which answered last had shown before in another order: in the
+        order of its answer, with its response before, but views, and that answer. Best is a pair with one that the verdict is about."""
+        operation = self.operations[0] if self.report["verdict"] == "position" else self.recording.entries[self.last_line - FIRST_ENTRY]
+        if self.report["verdict"] != "position" and self.report.get("k") != 2 or not isinstance(operation, Operation) or operation.kind == "view":
+            return None
+        before = next((one for one in reversed(self.recording.streams[operation.replica][:operation.n - 1]) if one.kind != "view"), None)
+        places = {name: place for place, name in enumerate(before.response)} if before else {}
+        common = [name for name in operation.response if name in places]
+        about = [name for name in common if name in self.elements]
+        turned = [pair for names in (about, common) for pair in zip(names, names[1:]) if places[pair[0]] > places[pair[1]]]
+        pair = next((pair for pair in turned if set(pair) & set(self.elements)), turned[0] if turned else None)
+        return (*pair, before, operation) if pair else None
+
+    def came_between(self, before: Operation, after: Operation) -> list:
+        """The changes of others that came to a replica between two operations of it."""
+        return [change for change in self.recording.changes() if change.replica != after.replica and after.has_seen(change) and not before.has_seen(change)]
+
+    @cached_property
+    def in_part(self) -> tuple | None:
+        """Of wrong contents that are right without some deletes: one of these, a delete that its author made directly before it, one after the
+        other, and which came with it; and the delete that had deleted the element of that one at the replica already."""
+        operation, (left_out, added) = self.operations[0], self.otherwise
+        if added or not left_out or any(change.kind != "del" for change in left_out):
+            return None
+        for change in left_out:
+            for other in self.made_before(change):
+                receipt = self.recording.arrival(other, operation.replica)
+                gone = self.recording.change_at([one for one in self.recording.deletes[other.element] if one is not other], receipt) if receipt else None
+                if gone and self.is_new(other):
+                    return change, other, gone
+        return None
+
+    def made_before(self, change: Operation) -> list:
+        """The deletes that an author made directly before a delete, one after the other, the last first: with nothing between them, in one update
+        perhaps."""
+        found, stream = [], self.recording.streams[change.replica]
+        received = {receipt.before for receipt in self.recording.receipts[change.replica]}
+        for n in range(change.n - 1, 0, -1):
+            if stream[n - 1].kind != "del" or n in received:
+                break
+            found.append(stream[n - 1])
+        return found
 
     @cached_property
     def steps(self) -> list:

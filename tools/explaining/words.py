@@ -11,7 +11,7 @@ from .causes import ALONE, Cause, causes_of, otherwise
 from .evidence import MOST_ARRIVED, Evidence
 from .programs import WEAK_ALONE, is_weak_alone
 from .recordings import Operation, Receipt, Recording, place_asked
-from .telling import FIRST_STEPS, at, counted, did, joined
+from .telling import FIRST_STEPS, at, counted, did, joined, listed
 
 CODE, LOG, NOTED = "In your code", "In your log", "Noted"  # titles: places of code or of a log; the user's words
 HIDDEN = "What this verdict may hide"  # the title of the section of warnings, the first one
@@ -239,7 +239,10 @@ def beside_hidden(evidence: Evidence) -> list:
 
 def gone_by(evidence: Evidence, names: list, operation: Operation) -> str:
     """By what one or two elements had been deleted for an operation."""
-    told = [f"{name} by {at(next(filter(operation.has_seen, evidence.recording.deletes[name])))}" for name in names]
+    deletes = [next(filter(operation.has_seen, evidence.recording.deletes[name])) for name in names]
+    if deletes == [operation]:
+        return f"{names[0]} is gone: this operation deletes it"
+    told = [f"{name} by {at(delete)}" for name, delete in zip(names, deletes)]
     return f"both were deleted already: {', '.join(told)}" if told[1:] else told[0].replace(" by ", " was deleted already, by ", 1)
 
 
@@ -407,7 +410,7 @@ def position(evidence: Evidence) -> tuple:
     operation = evidence.operations[0]
     response = operation.response
     asked = place_asked(operation, response)
-    lines = [did(operation, is_first=True), f"answered: {answer(evidence, operation)}"]
+    lines = [did(operation, is_first=True), *list_before(evidence, operation), f"answered: {answer(evidence, operation)}"]
     if asked < 0:
         lines.append(f"asked for: position {operation.at}, but the response is empty")
     else:
@@ -420,6 +423,16 @@ def position(evidence: Evidence) -> tuple:
         lines.append(f"found at: no position, since {operation.element} was deleted by {at(gone)}, {arrived(evidence.recording, gone, operation)}")
     return (f"position {operation.name}: {operation.element} is not at the position that was asked for.",
             [Section("The response, positions counted from 0", lines)])
+
+
+def list_before(evidence: Evidence, operation: Operation) -> list:
+    """The list that the replica showed last, and what it received since; a view is none."""
+    shown = next((one for one in reversed(evidence.recording.streams[operation.replica][:operation.n - 1]) if one.kind != "view"), None)
+    if shown is None:
+        return []
+    came = [receipt.seen.name for receipt in evidence.recording.receipts[operation.replica] if shown.n <= receipt.before < operation.n]
+    told = f", and then it received {listed(came, MOST_ARRIVED)}" if came else ""
+    return [f"before: {marked(shown.response, {operation.element, *evidence.elements})} by {at(shown)}{told}"]
 
 
 def answer(evidence: Evidence, operation: Operation) -> str:
