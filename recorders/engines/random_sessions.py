@@ -10,6 +10,7 @@ import subprocess
 import sys
 import tempfile
 import threading
+import time
 from collections import Counter
 from concurrent.futures import FIRST_EXCEPTION, ThreadPoolExecutor, wait
 from pathlib import Path
@@ -590,6 +591,16 @@ def tell(words: argparse.Namespace, driver: Driver, why: NoAnswer) -> NoReturn:
     fail(f"{words.engine}: {why}" + (f"; its last words: {said}" if said else ""))
 
 
+def wait_for(thread: threading.Thread) -> None:
+    """Waits a while for a thread's end. One that is about to begin can't be joined yet."""
+    last = time.monotonic() + MOST_WAITED
+    while (left := last - time.monotonic()) > 0:
+        try:
+            return thread.join(left)
+        except RuntimeError:
+            time.sleep(SECONDS / 10)
+
+
 def run_command(description: str) -> None:
     """Runs it as a command, to its end."""
     for stop in STOPS:
@@ -600,7 +611,7 @@ def run_command(description: str) -> None:
     except Stopped as stopped:  # the engine was ended, and nothing is said
         for thread in threading.enumerate():
             if thread is not threading.current_thread():
-                thread.join(MOST_WAITED)  # it may begin a program, which it ends then: no pool knows a thread that began with the signal
+                wait_for(thread)  # it may begin a program, which it ends then: no pool knows a thread that began with the signal
         signal.signal(stopped.args[0], signal.SIG_DFL)
         os.kill(os.getpid(), stopped.args[0])
     except Exception as why:

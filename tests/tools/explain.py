@@ -110,6 +110,12 @@ WORDS = [
      "elements is gone already; it must go on with the others.|It looks as if 0.5 (line 10) was not applied at replica 1: lost, or held back, or `received` is called "
      "before the change is applied. Or it deleted another element, one that was already deleted there: look at how a replica that applies a delete finds the "
      "element (is the whole id compared?)." + stop(11, "replica 1 applies 0.5")),
+    ("a delete that takes its neighbour along", 2, "0 ins a 0 : a|0 ins b 1 : a b|0 ins c 2 : a b c|1 recv 0 3|1 read : a b c|0 del a : b c|1 recv 0 4|1 read : c",
+     "Where to look|It looks as if 0.4 (line 8), applied at replica 1, deleted b too: b stood there in 1.1 (line 7), and no change that has come since deletes "
+     "it. Look at which elements a replica deletes there: from where on, and how many." + stop(9, "replica 1 applies 0.4")),
+    ("a delete that takes two others along at its author's", 1, "0 ins a 0 : a|0 ins b 1 : a b|0 ins c 2 : a b c|0 del a :",
+     "Where to look|It looks as if 0.4 (line 6), applied at replica 0, deleted b and c too: b and c stood there in 0.3 (line 5), and no change that has come since deletes "
+     "them. Look at which elements a replica deletes there: from where on, and how many." + stop(6, "replica 0 deletes a")),
     ("an insert that had seen the other", 2, "0 ins a 0 : a|1 recv 0 1|1 ins b 1 : a b|0 recv 1 1|0 read : b a",
      "refused 2: two responses can't be right together.|"
      "[a] before [b]: line 5 of the trace, 1.1: replica 1 inserted b at position 1, answered [a] [b]|"
@@ -1353,6 +1359,16 @@ def from_no_answer(tally: Tally, program: str, folder: str) -> None:
         tally.check(f"record.py: {words}", done.returncode == 2 and done.stderr.endswith(wanted) and not done.stdout and "Traceback" not in done.stderr, done)
 
 
+WAITS_FOR_ONE_THAT_BEGINS = """
+import threading, time
+from random_sessions import wait_for
+late = threading.Thread(target=time.sleep, args=[0.3])
+threading.Timer(0.3, late.start).start()
+wait_for(late)
+print("ended" if late.ident and not late.is_alive() else "left")
+"""
+
+
 def record_ended(tally: Tally, program: str, folder: str) -> None:
     """A signal ends `record.py`, the engine and what judges, and it says nothing; a full disk and closed streams are told of."""
     slow, engine, begun = Path(folder, "slow"), Path(folder, "slow_engine.py"), Path(folder, "begun")
@@ -1379,6 +1395,8 @@ def record_ended(tally: Tally, program: str, folder: str) -> None:
             left = [pid for pid in begun.read_text().split() if is_running(pid)]
             tally.check(f"record.py: {stop.name} while {what} works: nothing is left", not left and not os.listdir(temporary),
                         (left, os.listdir(temporary)))
+    done = subprocess.run([sys.executable, "-c", WAITS_FOR_ONE_THAT_BEGINS], capture_output=True, text=True, env=os.environ | {"PYTHONPATH": str(Path(RECORD).parent)})
+    tally.check("record.py: a thread that is about to begin is waited for", (done.returncode, done.stdout) == (0, "ended\n"), done)
     for name, told in ("x\n::error::y", "x\\n::error::y"), ("\x1b[31m", "\\x1b[31m"), ("\udcff", "\\xff"):
         done = subprocess.run([RECORD, name, program], capture_output=True, text=True)
         tally.check(f"record.py: {told}", done.returncode == 2 and done.stderr.startswith(f"record.py: {told} is none of "), done)

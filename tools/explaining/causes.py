@@ -48,6 +48,8 @@ MOVED_DELETE = ("If the editor sends positions, the position of {delete} was per
 MOVED_BEFORE = "; or an earlier insert was not adjusted for a delete that its author had not seen"
 PUT_AT_ONCE = (" {others} {were} inserted at the same place as {element}, and neither author had seen the other's insert. Look also at which "
                "of them comes first.")
+TOO_MUCH = ("It looks as if {deletes}, applied at replica {replica}, deleted {missing} too: {missing} stood there in {before}, and no change that has come since "
+            "deletes {it}. Look at which elements a replica deletes there: from where on, and how many.")
 SECOND_DELETE = ("It looks as if {again}, applied at replica {replica}, deleted {missing} instead of {element}: look at how a replica that applies a delete "
                  "finds the element. {element} was already deleted there, by {first}, so look also at what the editor does with a delete whose element is gone.")
 CAUSAL = ("Apply an operation only after everything that its author had seen, or send all of that together with it. If the editor itself holds operations "
@@ -127,6 +129,7 @@ def of_contents(evidence: Evidence) -> list:
     if evidence.undelivered:
         return [undelivered(evidence)]
     found = [*applied_twice(evidence), *in_part(evidence), *wrong_delete(evidence, evidence.operations[0]), *second_delete(evidence), *overtaken(evidence), *lost_neighbour(evidence)]
+    found += too_much(evidence) if not found else []
     more = unlike_receipts(evidence) if all(cause.name in ("lost neighbour", "applied in part") for cause in found) else []
     is_loss_first = is_loss_likelier(evidence, found or more)
     found += more
@@ -264,6 +267,21 @@ def wrong_delete(evidence: Evidence, operation: Operation) -> list:
         return []
     return [Cause("wrong delete", WRONG_DELETE.format(delete=at(news[0]), replica=operation.replica, missing=missing, surplus=surplus)),
             *moved_delete(evidence, news[0])]
+
+
+def too_much(evidence: Evidence) -> list:
+    """Of a response that lacks what was there before, and has nothing that should not be there, where a delete came since, or is the response's own."""
+    operation = evidence.operations[0]
+    before = next((one for one in reversed(evidence.recording.streams[operation.replica][:operation.n - 1]) if one.kind != "view"), None)
+    if before is None or evidence.repeated or evidence.surplus or not evidence.missing or not set(evidence.missing) <= set(before.response):
+        return []
+    deletes = [change for change in evidence.came_between(before, operation) if change.kind == "del"]
+    deletes += [operation] if operation.kind == "del" else []
+    unseen = [delete for name in evidence.missing for delete in evidence.recording.deletes.get(name, []) if delete.line < operation.line]
+    if not deletes or unseen:
+        return []
+    return [Cause("too much", TOO_MUCH.format(deletes=listed(list(map(at, deletes)), MOST_TOLD), replica=operation.replica, missing=listed(evidence.missing, MOST_TOLD),
+                                              before=at(before), it="them" if evidence.missing[1:] else "it"))]
 
 
 def second_delete(evidence: Evidence) -> list:
