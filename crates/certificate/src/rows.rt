@@ -21,7 +21,7 @@ pub fn rows_of_layers(alloc: Global, graph: &OrderGraph, k: u32) -> Result<Vec<R
     let table = after_table(alloc, graph)?;
     let mut rows = Vec::new(alloc);
     for source in 0..graph.elements() {
-        let row = row_of_layers(alloc, graph, &table, source, k)?;
+        let row = row_by_table(alloc, graph, &table, source, k)?;
         rows.push(row)?;
     }
     Ok(rows)
@@ -47,8 +47,8 @@ pub fn after_table(alloc: Global, graph: &OrderGraph) -> Result<AfterTable, Memo
     Ok(table)
 }
 
-/// The row of k - 1 layers from an element.
-pub fn row_of_layers(
+/// The row of k - 1 layers from an element, along a table.
+pub fn row_by_table(
     alloc: Global,
     graph: &OrderGraph,
     table: &AfterTable,
@@ -68,7 +68,11 @@ pub fn row_of_layers(
 }
 
 /// The layers of the elements with these numbers.
-fn layers_of(alloc: Global, graph: &OrderGraph, numbers: &[Vec<u32>]) -> Result<Vec<Layer>, Memory>
+pub fn layers_of(
+    alloc: Global,
+    graph: &OrderGraph,
+    numbers: &[Vec<u32>],
+) -> Result<Vec<Layer>, Memory>
     requires { All (λ layer. All (λ x. x < length graph.now.elements) layer.items) numbers.now }
     ensures { IfOk result (λ layers. layers.items
         ≡ map (λ layer. names_at graph.now.elements layer.items) numbers.now) }

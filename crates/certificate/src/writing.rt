@@ -42,7 +42,7 @@ pub fn write_certificate(
         return Ok(text);
     };
     let graph = covering_graph(alloc, recording)?;
-    let maker = row_maker(alloc, &graph, k)?;
+    let mut maker = row_maker(alloc, &graph, k)?;
     maker.push_rows(&mut text)?;
     Ok(text)
 }
