@@ -11,7 +11,7 @@ ghost use Rattle.certificate.specs.Ways.{IsWay};
 
 use super::listed::row_by_lists;
 use super::rows::row_by_table;
-use super::ways::{Costs, Way, cheaper_way, first_way};
+use super::ways::{Costs, Way, choose_way, first_way};
 use bit_tables::AfterTable;
 use certificate_text::push_row;
 use events::Memory;
@@ -190,17 +190,14 @@ impl RowMaker<'_> {
         }
     }
 
-    /// Takes the table from now on, if the rows along lists have cost more than it would have.
-    fn choose_way(&mut self) -> Result<(), Memory>
+    /// Takes the table from now on, where rows along lists have cost more than it would have.
+    fn choose(&mut self) -> Result<(), Memory>
         requires way { IsWay self.old.graph.now self.old.way }
         ensures graph { self.new.graph.now ≡ self.old.graph.now }
         ensures k { self.new.k ≡ self.old.k }
         ensures way { OnOk result (IsWay self.new.graph.now self.new.way) }
     {
-        if self.costs.is_table_cheaper() {
-            cheaper_way(self.alloc, self.graph, &mut self.way)?;
-        }
-        Ok(())
+        choose_way(self.alloc, self.graph, &self.costs, &mut self.way)
     }
 
     /// Adds the lines of the rows of all elements, in the caller's thread.
@@ -211,7 +208,7 @@ impl RowMaker<'_> {
     {
         let elements = self.graph.elements() as usize;
         for batch in 0..elements / (ROWS * PIECES) + 1 {
-            self.choose_way()?;
+            self.choose()?;
             self.push_rows_from(batch * (ROWS * PIECES), ROWS * PIECES, text)?;
         }
         Ok(())
@@ -290,7 +287,7 @@ impl RowMaker<'_> {
     {
         let elements = self.graph.elements() as usize;
         for batch in 0..elements / (ROWS * PIECES) + 1 {
-            self.choose_way()?;
+            self.choose()?;
             self.push_side_by_side(rt, batch * (ROWS * PIECES), texts)?;
         }
         Ok(())
@@ -347,8 +344,12 @@ fn taken(made: &mut [Result<Vec<u8>, Memory>], slot: usize) -> Result<Vec<u8>, M
 /// other. The number of workers says whether threads are used: with 1 the rows are made one after the other
 /// in the caller's thread, as one text; with any other number four threads take turns at texts of ten rows,
 /// in batches of 5,120 rows, after each of which they wait for one another. Behind the last row up to 512
-/// texts are empty. Besides the texts it takes memory for a row of each thread, for 512 slots, and for a
-/// table of `n * n / 8` bytes for n elements.
+/// texts are empty.
+///
+/// Rows are made along the lists; before a batch a table of `n * n / 8` bytes for n elements is taken in their
+/// place, if it is found to be cheaper, as `first_way` and `Costs` say. Along lists each text takes time and
+/// memory linear in the elements and the lists to begin. Besides the texts memory is for a row of each thread,
+/// for 512 slots, and for the table, or 12 bytes for each place that is kept.
 pub fn push_rows_by<H: Threads + Sync>(
     rt: &H,
     alloc: Global,

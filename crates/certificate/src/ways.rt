@@ -47,12 +47,21 @@ pub fn first_way(alloc: Global, graph: &OrderGraph) -> Result<Way, Memory>
     Ok(Way::Lists(listed(alloc, graph)?))
 }
 
-/// Takes the table, if there is none yet. Before it is made the lists are let go.
-pub fn cheaper_way(alloc: Global, graph: &OrderGraph, way: &mut Way) -> Result<(), Memory>
+/// Takes the table in place of lists, where rows along them have cost more than it would have. Before it is
+/// made the lists are let go.
+pub fn choose_way(
+    alloc: Global,
+    graph: &OrderGraph,
+    costs: &Costs,
+    way: &mut Way,
+) -> Result<(), Memory>
     requires { IsWay graph.now way.old }
     ensures { OnOk result (IsWay graph.now way.new) }
 {
     if let Way::Table(_) = way {
+        return Ok(());
+    }
+    if !costs.is_table_cheaper() {
         return Ok(());
     }
     *way = Way::Table(AfterTable::new(alloc, 0)?);

@@ -18,21 +18,21 @@ loop-batch-preserved g c =
     let v : Responses = c.args.self.now.graph.now in
     let k : ℕ = c.args.self.now.k in
     let inv = c.loop-batch.invariant in
-    let graph : c.choose_way.new.self.graph.now ≡ v = c.choose_way.ensures.graph ∙ inv.graph in
-    let same : c.choose_way.new.self.k ≡ k = c.choose_way.ensures.k ∙ inv.k in
+    let graph : c.choose.new.self.graph.now ≡ v = c.choose.ensures.graph ∙ inv.graph in
+    let same : c.choose.new.self.k ≡ k = c.choose.ensures.k ∙ inv.k in
     let next : c.loop-batch.batch * 5120 + 5120 ≡ (c.loop-batch.batch + 1) * 5120 = omega arith in
     let more : AppendsRows v k (take 5120 (drop (c.loop-batch.batch * 5120) v.elements))
     (joined c.loop-batch.texts.items) (joined c.push_side_by_side.new.texts.items) =
     subst (λ (w : Responses). AppendsRows w k (take 5120 (drop (c.loop-batch.batch * 5120) w.elements))
     (joined c.loop-batch.texts.items) (joined c.push_side_by_side.new.texts.items)) graph
-    (subst (λ (m : ℕ). AppendsRows c.choose_way.new.self.graph.now m
-    (take 5120 (drop (c.loop-batch.batch * 5120) c.choose_way.new.self.graph.now.elements))
+    (subst (λ (m : ℕ). AppendsRows c.choose.new.self.graph.now m
+    (take 5120 (drop (c.loop-batch.batch * 5120) c.choose.new.self.graph.now.elements))
     (joined c.loop-batch.texts.items) (joined c.push_side_by_side.new.texts.items)) same
     c.in_ok-push_side_by_side.ensures) in
     record {
       graph = graph;
       k = same;
-      way = c.in_ok-choose_way.ensures.way;
+      way = c.in_ok-choose.ensures.way;
       rows =
           subst (λ n. AppendsRows v k (take n v.elements) (joined c.args.texts.now.items)
           (joined c.push_side_by_side.new.texts.items)) next
