@@ -46,7 +46,7 @@ pub fn row_by_lists(
     // The contract of this call has that the responses are proper.
     let elements = graph.elements();
     let numbers = lists.layers_from(alloc, source, k - 1)?;
-    costs.note(lists.looked(), elements, &numbers);
+    costs.note(lists.looked(), elements, &numbers, 1);
     let layers = layers_of(alloc, graph, &numbers)?;
     Ok(Row::from_items(layers))
 }

@@ -54,7 +54,7 @@ pub fn row_maker(alloc: Global, graph: &OrderGraph, k: u32) -> Result<RowMaker<'
     ensures { IfOk result (λ maker. (maker.graph.now ≡ graph.now) × (maker.k ≡ k)
         × IsWay maker.graph.now maker.way) }
 {
-    let way = first_way(alloc, graph)?;
+    let way = first_way(alloc, graph, k)?;
     let costs = Costs::new(graph);
     Ok(RowMaker {
         alloc,
@@ -170,6 +170,7 @@ impl RowMaker<'_> {
         ensures { OnOk result (AppendsRows self.now.graph.now self.now.k
             (take count (drop first self.now.graph.now.elements)) text.old.items text.new.items) }
     {
+        self.costs.note_begin(listed);
         let mut lists = ListLayers::new(self.alloc, listed)?;
         for i in 0..count {
             self.push_listed_at(&mut lists, first + i, text)?;
@@ -177,13 +178,17 @@ impl RowMaker<'_> {
         Ok(())
     }
 
-    /// Adds the lines of the rows of so many elements from one number on, or of as many as there are.
+    /// Adds the lines of the rows of so many elements from one number on, or of as many as there are. Past the
+    /// last it takes one step.
     fn push_rows_from(&self, first: usize, count: usize, text: &mut Vec<u8>) -> Result<(), Memory>
         requires way { IsWay self.now.graph.now self.now.way }
         requires few { first + count < 2 ^ 64 }
         ensures { OnOk result (AppendsRows self.now.graph.now self.now.k
             (take count (drop first self.now.graph.now.elements)) text.old.items text.new.items) }
     {
+        if first >= self.graph.elements() as usize {
+            return Ok(());
+        }
         match &self.way {
             Way::Lists(listed) => self.push_rows_by_lists(listed, first, count, text),
             Way::Table(table) => self.push_rows_by_table(table, first, count, text),

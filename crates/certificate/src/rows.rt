@@ -22,7 +22,7 @@ pub fn rows_of_layers(alloc: Global, graph: &OrderGraph, k: u32) -> Result<Vec<R
     requires { 1 ≤ k }
     ensures { IfOk result (λ rows. AreExactRows two graph.now k graph.now.elements rows.items) }
 {
-    let mut way = first_way(alloc, graph)?;
+    let mut way = first_way(alloc, graph, k)?;
     let costs = Costs::new(graph);
     let mut rows = Vec::new(alloc);
     for source in 0..graph.elements() {
@@ -51,6 +51,7 @@ fn row_along(
 {
     match way {
         Way::Lists(part) => {
+            costs.note_begin(part);
             let mut lists = ListLayers::new(alloc, part)?;
             row_by_lists(alloc, graph, &mut lists, costs, source, k)
         },

@@ -1,18 +1,22 @@
 //! What rows are made along: lists, or a table of bits, whichever is found to be cheaper.
 
-ghost use Rattle.std.specs.Prelude.{IfOk, OnOk};
+ghost use Rattle.std.specs.Prelude.{◌≤◌, IfOk, OnOk};
 ghost use Rattle.certificate.specs.Ways.{IsWay};
 
 use super::listed::listed;
 use super::rows::after_table;
 use bit_tables::AfterTable;
 use events::Memory;
+use list_layers::ListLayers;
 use order_graph::OrderGraph;
 use std::alloc::Global;
 use std::sync::atomic::{AtomicU64, Ordering};
 
 /// How many words of a table are gone through in the time of one look at a place of a list.
 const WORDS: u64 = 4;
+
+/// How many rows are tried along lists before the first.
+const TRIED: u32 = 64;
 
 /// The lists of a graph, of which those that others hold may be empty; or a table of what stands after each
 /// element.
@@ -37,14 +41,47 @@ fn words_of(elements: u32) -> u64 {
     elements.saturating_mul(elements / 64 + 1)
 }
 
-/// The way in which rows are begun: along the lists, unless a table has no more words than these have places.
-pub fn first_way(alloc: Global, graph: &OrderGraph) -> Result<Way, Memory>
+/// Whether a table is cheaper than the lists of this graph, by some rows of k - 1 layers along these, spread
+/// over all, which are let go: either all rows, if they are as these, cost more than along the table, which is
+/// to be made first; or these alone do.
+fn is_table_cheaper_by_trial(alloc: Global, part: &OrderGraph, k: u32) -> Result<bool, Memory>
+    requires { 1 ≤ k }
+{
+    let elements = part.elements();
+    let step = elements / TRIED + 1;
+    let these = Costs::new(part);
+    let all = Costs::new(part);
+    let mut lists = ListLayers::new(alloc, part)?;
+    for i in 0..TRIED {
+        let source = i.saturating_mul(step);
+        if source >= elements {
+            break;
+        }
+        let numbers = lists.layers_from(alloc, source, k - 1)?;
+        these.note(lists.looked(), elements, &numbers, 1);
+        all.note(lists.looked(), elements, &numbers, u64::from(step));
+        if these.is_table_cheaper() {
+            return Ok(true);
+        }
+    }
+    Ok(all.is_table_cheaper())
+}
+
+/// The way in which rows of k - 1 layers are begun: along the lists, unless a table has no more words than
+/// these have places, or a few rows show that it is cheaper.
+pub fn first_way(alloc: Global, graph: &OrderGraph, k: u32) -> Result<Way, Memory>
+    requires { 1 ≤ k }
     ensures { IfOk result (IsWay graph.now) }
 {
     if words_of(graph.elements()) <= places_of(graph) {
         return Ok(Way::Table(after_table(alloc, graph)?));
     }
-    Ok(Way::Lists(listed(alloc, graph)?))
+    let part = listed(alloc, graph)?;
+    if !is_table_cheaper_by_trial(alloc, &part, k)? {
+        return Ok(Way::Lists(part));
+    }
+    drop(part);
+    Ok(Way::Table(after_table(alloc, graph)?))
 }
 
 /// Takes the table in place of lists, where rows along them have cost more than it would have. Before it is
@@ -87,17 +124,26 @@ impl Costs {
         }
     }
 
-    /// Notes one row, for which so many places were looked at: a table costs a word for each 64 elements, for
-    /// each layer and each number but those of the last layer.
-    pub fn note(&self, looked: u64, elements: u32, numbers: &[Vec<u32>]) {
-        let mut rows = 1u64;
+    /// Notes that rows were begun along the lists of this graph: a mark is written for each list, and a flag,
+    /// an eighth of a word, for each element.
+    pub fn note_begin(&self, graph: &OrderGraph) {
+        let words = u64::from(graph.lists()) + u64::from(graph.elements() / 8);
+        self.by_lists.fetch_add(words, Ordering::SeqCst);
+    }
+
+    /// Notes so many rows like this, for which so many places were looked at: a table costs a word for each 64
+    /// elements, for each layer and each number but those of the last layer.
+    pub fn note(&self, looked: u64, elements: u32, numbers: &[Vec<u32>], count: u64) {
+        let mut unions = 1u64;
         for layer in numbers.iter().take(numbers.len().saturating_sub(1)) {
-            rows = rows.saturating_add(layer.len() as u64 + 1);
+            unions = unions.saturating_add(layer.len() as u64 + 1);
         }
-        let words = rows.saturating_mul(u64::from(elements / 64 + 1));
+        let words = unions.saturating_mul(u64::from(elements / 64 + 1));
+        let looks = looked.saturating_mul(WORDS);
         self.by_lists
-            .fetch_add(looked.saturating_mul(WORDS), Ordering::SeqCst);
-        self.by_table.fetch_add(words, Ordering::SeqCst);
+            .fetch_add(looks.saturating_mul(count), Ordering::SeqCst);
+        self.by_table
+            .fetch_add(words.saturating_mul(count), Ordering::SeqCst);
     }
 
     /// Whether the rows so far have cost more than the table and they along it would have.
