@@ -38,8 +38,9 @@ use witnesses::{Order, Steps};
 ///
 /// Along a table of n * n bits for n elements a row costs n / 64 steps for itself, for each layer behind one
 /// that has names and for each name but those of the last layer. The table is made at once where it has no
-/// more words than the responses have places, and else as soon as the rows so far have cost more along the
-/// responses, four steps for each place, than it and they along it would have. To make it each response costs
+/// more words than the responses have places, or where up to 64 rows that are tried show it to be cheaper, a
+/// step along a response counted as four words; and else as soon as the rows so far have cost more along the
+/// responses than it and they along it would have. To make it each response costs
 /// n / 64 steps, and each of its places a step, and one for each new element behind it, up to 64; where there
 /// are more, or its own is new, n / 64 steps. New is an element that the response before has not, or in
 /// another order.

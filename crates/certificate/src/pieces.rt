@@ -55,14 +55,25 @@ pub fn row_maker(alloc: Global, graph: &OrderGraph, k: u32) -> Result<RowMaker<'
         × IsWay maker.graph.now maker.way) }
 {
     let way = first_way(alloc, graph, k)?;
-    let costs = Costs::new(graph);
-    Ok(RowMaker {
-        alloc,
-        graph,
-        way,
-        costs,
-        k,
-    })
+    Ok(RowMaker::along(alloc, graph, way, k))
+}
+
+impl<'a> RowMaker<'a> {
+    /// The maker of the rows of a graph that begins with this way.
+    pub fn along(alloc: Global, graph: &'a OrderGraph, way: Way, k: u32) -> RowMaker<'a>
+        requires { 1 ≤ k }
+        ensures graph { result.graph.now ≡ graph.now }
+        ensures k { result.k ≡ k }
+        ensures way { result.way ≡ way }
+    {
+        RowMaker {
+            alloc,
+            graph,
+            way,
+            costs: Costs::new(graph),
+            k,
+        }
+    }
 }
 
 impl RowMaker<'_> {
@@ -281,7 +292,7 @@ impl RowMaker<'_> {
 
     /// Adds the lines of the rows of all elements, in pieces that are made side by side. The last batch of
     /// them may be a part, or empty: past the end no row is added.
-    fn push_in_pieces<H: Threads + Sync>(
+    pub fn push_in_pieces<H: Threads + Sync>(
         &mut self,
         rt: &H,
         texts: &mut Vec<Vec<u8>>,
@@ -351,9 +362,10 @@ fn taken(made: &mut [Result<Vec<u8>, Memory>], slot: usize) -> Result<Vec<u8>, M
 /// in batches of 5,120 rows, after each of which they wait for one another. Behind the last row up to 512
 /// texts are empty.
 ///
-/// Rows are made along the lists; before a batch a table of `n * n / 8` bytes for n elements is taken in their
-/// place, if it is found to be cheaper, as `first_way` and `Costs` say. Along lists each text takes time and
-/// memory linear in the elements and the lists to begin. Besides the texts memory is for a row of each thread,
+/// Rows are made along the lists; in their place a table of `n * n / 8` bytes for n elements is taken if it is
+/// found to be cheaper: at first by some rows that are tried, and before each batch by those so far, as
+/// `first_way` and `choose_way` say. Along lists each text takes time and memory linear in the elements and the
+/// lists to begin. Besides the texts memory is for a row of each thread,
 /// for 512 slots, and for the table, or 12 bytes for each place that is kept.
 pub fn push_rows_by<H: Threads + Sync>(
     rt: &H,

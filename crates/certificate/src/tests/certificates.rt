@@ -237,7 +237,7 @@ fn push_filled(text: &mut String, pattern: &str, hash: &str, dollar: &str) -> Re
 
 /// Some elements of each of 15 replicas; then the last replica, which has received all, shows the last
 /// element of each before the first of the next one, once all the way round: 45 elements and more, and four
-/// threads make 40 rows in a turn. Rows of 45 are made along a table, those of 75 along lists.
+/// threads make 40 rows in a turn. That of 45 has no more words in its table than places in its lists.
 fn wide_ring_once(alloc: Global, inserts: &str, view: &str) -> Result<String, Memory> {
     let mut text = String::new(alloc);
     text.push_str("trace 2\nreplicas 16\n")?;

@@ -6,8 +6,9 @@ ghost use Rattle.certificate.specs.AfterTables.{IsAfterTable};
 
 use crate::certifying::covering_graph;
 use crate::listed::{listed, row_by_lists};
+use crate::pieces::RowMaker;
 use crate::rows::{after_table, row_by_table};
-use crate::ways::Costs;
+use crate::ways::{Costs, Way};
 use bit_tables::AfterTable;
 use certificate_text::{Row, push_row};
 use events::{Memory, Recording};
@@ -65,6 +66,32 @@ fn rows_agree(alloc: Global, recording: &Recording, k: u32) -> Result<bool, Memo
     rows_agree_on(alloc, &graph, &part, &table, k)
 }
 
+/// Whether the text of all rows is the same, along lists by threads, and along a table.
+fn texts_agree(
+    rt: &(impl Threads + Sync),
+    alloc: Global,
+    recording: &Recording,
+    k: u32,
+) -> Result<bool, Memory>
+    requires sound { IsSound recording.now }
+    requires some { 1 ≤ k }
+{
+    let graph = covering_graph(alloc, recording)?;
+    let part = listed(alloc, &graph)?;
+    let mut by_lists = RowMaker::along(alloc, &graph, Way::Lists(part), k);
+    let mut texts = Vec::new(alloc);
+    by_lists.push_in_pieces(rt, &mut texts)?;
+    let table = after_table(alloc, &graph)?;
+    let mut by_table = RowMaker::along(alloc, &graph, Way::Table(table), k);
+    let mut wanted = Vec::new(alloc);
+    by_table.push_rows(&mut wanted)?;
+    let mut text = Vec::new(alloc);
+    for part in &texts {
+        text.extend_from_slice(part.as_slice())?;
+    }
+    Ok(text.as_slice() == wanted.as_slice())
+}
+
 /// The same for rows of up to five layers, of a recording that has to be sound. A call that finds no memory
 /// is made again.
 fn all_agree(
@@ -85,6 +112,20 @@ fn all_agree(
     Ok(true)
 }
 
+/// Whether the text of all rows of four layers is, of a recording that has to be sound.
+fn all_texts_agree(
+    rt: &(impl Threads + Sync),
+    alloc: Global,
+    recording: &Recording,
+) -> Result<bool, Fail> {
+    check_sound(rt, alloc, recording)?;
+    let agree = match texts_agree(rt, alloc, recording, 5) {
+        Ok(agree) => agree,
+        Err(Memory) => texts_agree(rt, alloc, recording, 5)?,
+    };
+    Ok(agree)
+}
+
 /// From c a way leads to a, which is numbered below it, and only from there to d; nothing leads to e.
 const THROUGH_A_LESSER: &str =
     "trace 2\nreplicas 4\n0 ins a 0 : a\n0 ins b 1 : a b\n0 ins c 2 : a b c\n0 ins d 3 : a b c d\n1 ins e 0 : e\n0 view : c a\n0 view : a d\n0 view : d b\n0 view : b c\n";
@@ -99,6 +140,7 @@ fn rows_of_worked_recordings_along_lists(rt: HostRuntime) -> Result<(), Fail> {
     ] {
         let recording = recording(rt.alloc(), text)?;
         assert!(rt; all_agree(&rt, rt.alloc(), &recording)?, "at {text}");
+        assert!(rt; all_texts_agree(&rt, rt.alloc(), &recording)?, "at {text}");
     }
     Ok(())
 }
