@@ -106,8 +106,8 @@ pub fn choose_way(
     Ok(())
 }
 
-/// What the rows that were made along lists have cost, and what they would have along a table, counted in
-/// words of it. That is more the greater the rows; threads may add to it side by side.
+/// What rows along lists have cost, and what a table and the same rows along it would have, counted in words of
+/// it. Threads may add to it side by side. No clause says which way is taken: the rows are the same.
 #[derive(Drop)]
 pub struct Costs {
     by_lists: AtomicU64,
