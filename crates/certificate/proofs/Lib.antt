@@ -1,5 +1,6 @@
 pub mod Copies
-pub mod TableWays
+pub mod ListWays
+pub mod SameLayers
 pub mod ExactRows
 pub mod CoveredRows
 pub mod ByRows

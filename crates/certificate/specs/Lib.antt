@@ -1,2 +1,3 @@
 pub mod AfterTables
 pub mod ByRows
+pub mod Ways

@@ -31,15 +31,23 @@ use witnesses::{Order, Steps};
 /// elements that take k - 1 steps or more stand in none. A certificate has one spelling, so the same
 /// recording gives the same bytes.
 ///
-/// A fault, an order and a cycle of two elements cost their own length. For a greater `k` a table of n * n
-/// bits for n elements is made once, by responses that cover all, for which the contents are checked once
-/// more. Each of these costs n / 64 steps, and each of its places a step, and one for each new element behind
-/// it, up to 64; where there are more, or its own is new, n / 64 steps. New is an element that the response
-/// before has not, or in another order. Each row then costs n / 64 steps for itself, for each layer behind one
-/// that has names and for each name but those of the last layer, and memory for its names. So the memory may
-/// be quadratic in the elements: of 4,096, rows of up to 2,048 names of 33 bytes each on average, and it
-/// answers `Memory` where that is not to be had. For the text alone `write_certificate` keeps one row at a
-/// time.
+/// A fault, an order and a cycle of two elements cost their own length. For a greater `k` the responses that
+/// cover all are found, for which the contents are checked once more. Rows are made along these, without those
+/// that the one beside them holds: a row costs at most a step for each place behind its names in each of them,
+/// those of its last layer left out, and to begin a step for each element and each response.
+///
+/// Along a table of n * n bits for n elements a row costs n / 64 steps for itself, for each layer behind one
+/// that has names and for each name but those of the last layer. The table is made at once where it has no
+/// more words than the responses have places, or where up to 64 rows that are tried show it to be cheaper, a
+/// step along a response counted as four words; and else as soon as the rows so far have cost more along the
+/// responses than it and they along it would have. To make it each response costs
+/// n / 64 steps, and each of its places a step, and one for each new element behind it, up to 64; where there
+/// are more, or its own is new, n / 64 steps. New is an element that the response before has not, or in
+/// another order.
+///
+/// Besides, there is memory for the names. So the memory may be quadratic in the elements: of 4,096, rows of up
+/// to 2,048 names of 33 bytes each on average, and it answers `Memory` where that is not to be had. For the
+/// text alone `write_certificate` keeps one row at a time.
 pub fn certify(
     alloc: Global,
     recording: &Recording,

@@ -10,8 +10,10 @@
 #![tactic(auto)]
 
 mod certifying;
+mod listed;
 mod pieces;
 mod rows;
+mod ways;
 mod writing;
 
 pub use certificate_text::{CertCause, CertFault, Certificate, Layer, Layers, Row, Version};

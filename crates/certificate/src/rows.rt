@@ -6,10 +6,14 @@ ghost use Rattle.specification.specs.LayerRule.{row_responses};
 ghost use Rattle.specification.specs.ExactRows.{IsExactRow, AreExactRows};
 ghost use Rattle.order_graph.specs.Kept.{names_at};
 ghost use Rattle.certificate.specs.AfterTables.{IsAfterTable};
+ghost use Rattle.certificate.specs.Ways.{IsWay};
 
+use super::listed::row_by_lists;
+use super::ways::{Costs, Way, choose_way, first_way};
 use bit_tables::{AfterTable, Noter, layers_from};
 use certificate_text::{Layer, Row};
 use events::{Memory, Name};
+use list_layers::ListLayers;
 use order_graph::OrderGraph;
 use std::alloc::Global;
 
@@ -18,13 +22,41 @@ pub fn rows_of_layers(alloc: Global, graph: &OrderGraph, k: u32) -> Result<Vec<R
     requires { 1 ≤ k }
     ensures { IfOk result (λ rows. AreExactRows two graph.now k graph.now.elements rows.items) }
 {
-    let table = after_table(alloc, graph)?;
+    let mut way = first_way(alloc, graph, k)?;
+    let costs = Costs::new(graph);
     let mut rows = Vec::new(alloc);
     for source in 0..graph.elements() {
-        let row = row_of_layers(alloc, graph, &table, source, k)?;
+        choose_way(alloc, graph, &costs, &mut way)?;
+        let row = row_along(alloc, graph, &way, &costs, source, k)?;
         rows.push(row)?;
     }
     Ok(rows)
+}
+
+/// The row of k - 1 layers from an element, by either way. Along lists it takes also time and memory linear in
+/// the elements and the lists.
+fn row_along(
+    alloc: Global,
+    graph: &OrderGraph,
+    way: &Way,
+    costs: &Costs,
+    source: u32,
+    k: u32,
+) -> Result<Row, Memory>
+    requires some { 1 ≤ k }
+    requires element { source < length graph.now.elements }
+    requires way { IsWay graph.now way.now }
+    ensures { let name = slice_index_or graph.now.elements source [] in
+        IfOk result (λ row. IsExactRow (row_responses two graph.now name) k name row) }
+{
+    match way {
+        Way::Lists(part) => {
+            costs.note_begin(part);
+            let mut lists = ListLayers::new(alloc, part)?;
+            row_by_lists(alloc, graph, &mut lists, costs, source, k)
+        },
+        Way::Table(table) => row_by_table(alloc, graph, table, source, k),
+    }
 }
 
 /// The table of what stands after each element. Each list is noted beside the one before, of which it mostly
@@ -47,8 +79,8 @@ pub fn after_table(alloc: Global, graph: &OrderGraph) -> Result<AfterTable, Memo
     Ok(table)
 }
 
-/// The row of k - 1 layers from an element.
-pub fn row_of_layers(
+/// The row of k - 1 layers from an element, along a table.
+pub fn row_by_table(
     alloc: Global,
     graph: &OrderGraph,
     table: &AfterTable,
@@ -68,7 +100,11 @@ pub fn row_of_layers(
 }
 
 /// The layers of the elements with these numbers.
-fn layers_of(alloc: Global, graph: &OrderGraph, numbers: &[Vec<u32>]) -> Result<Vec<Layer>, Memory>
+pub fn layers_of(
+    alloc: Global,
+    graph: &OrderGraph,
+    numbers: &[Vec<u32>],
+) -> Result<Vec<Layer>, Memory>
     requires { All (λ layer. All (λ x. x < length graph.now.elements) layer.items) numbers.now }
     ensures { IfOk result (λ layers. layers.items
         ≡ map (λ layer. names_at graph.now.elements layer.items) numbers.now) }

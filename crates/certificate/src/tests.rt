@@ -1,6 +1,7 @@
 //! Tests of verdicts on worked recordings.
 
 mod certificates;
+mod listed;
 mod views;
 
 use super::{Gate, NoGate, SearchFault, Verdict, judge};

@@ -25,8 +25,10 @@ use verdict::{Judged, Verdict, verdict_and_graph};
 ///
 /// For `k` of 3 and more each row of layers is made, its line is added to the text, and it is let go before
 /// the next. So for n elements memory is for the text, in which a name takes its own length and a space, for
-/// one row, of at most n names of 33 bytes each, and for a table of `n * n / 8` bytes. Time is that of
-/// `certify` and `Certificate::write`. It answers `Memory` where that is not to be had.
+/// one row, of at most n names of 33 bytes each, and for what rows are made along: 12 bytes for each place of
+/// the responses that are kept, or a table of `n * n / 8` bytes, never both. Time is that of `certify` and
+/// `Certificate::write`, but that it decides for the table before each 5,120 rows alone, and begins as often.
+/// It answers `Memory` where that is not to be had.
 pub fn write_certificate(
     alloc: Global,
     recording: &Recording,
@@ -42,7 +44,7 @@ pub fn write_certificate(
         return Ok(text);
     };
     let graph = covering_graph(alloc, recording)?;
-    let maker = row_maker(alloc, &graph, k)?;
+    let mut maker = row_maker(alloc, &graph, k)?;
     maker.push_rows(&mut text)?;
     Ok(text)
 }

@@ -16,7 +16,7 @@ pub mod ShortestFew
 pub mod Lengths
 pub mod Rising
 pub mod LowerBounds
-pub mod Thinned
+pub mod ThinnedLists
 pub mod ListLooks
 pub mod SpotRooms
 pub mod FoundLooks

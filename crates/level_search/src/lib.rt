@@ -40,6 +40,7 @@ pub use list_search::{BoundSource, PlainBound, Scratch, distances, search};
 pub use order_graph::Looked;
 pub use search_fault::SearchFault;
 pub use tabled::{Sets, search_by_table};
+pub use thinning::thinned;
 pub use witnesses::{Step, Steps};
 
 /// How many workers may search side by side: each has a seat at the shared bound.

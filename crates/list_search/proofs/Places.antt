@@ -30,7 +30,7 @@ pub stands_read : (rows : List (List ℕ)) (l j x y : ℕ) → slice_get (row ro
 stands_read rows l j x y read stands = sym stands.here ∙ get_or_from_slice_get (row rows l) j y 0 read
 
 -- a place past a mark that is set further was read, or is past the mark that was
-past_marked : (rows : List (List ℕ)) (marks : List ℕ) (l p x : ℕ) (Q : Type 0) → l < length marks
+pub past_marked : (rows : List (List ℕ)) (marks : List ℕ) (l p x : ℕ) (Q : Type 0) → l < length marks
     → ((j : ℕ) → p < j → j < slice_index marks l → Stands rows l j x → Q)
     → ((k j : ℕ) → slice_index marks k ≤ j → Stands rows k j x → Q) → (k j : ℕ)
     → get_or (set marks l (p + 1)) k 0 ≤ j → Stands rows k j x → Q

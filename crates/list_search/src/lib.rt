@@ -8,6 +8,6 @@ mod searching;
 
 pub use order_graph::Looked;
 pub use searching::{
-    BoundSource, PlainBound, ReadyScratch, Scratch, distances, distances_ready, search,
-    search_by_number, search_ready,
+    BoundSource, PlainBound, ReadyScratch, Scratch, distances, distances_ready, reset_marks,
+    restore_marks, search, search_by_number, search_ready,
 };

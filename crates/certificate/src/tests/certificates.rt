@@ -210,11 +210,18 @@ static INSERTING: [(&str, &str); 15] = [
 ];
 
 /// Three inserts of a replica, and their receipt by another one: `#` stands for its number, `$` for its
-/// letter.
-const INSERTS: &str = "# ins $0 0 : $0\n# ins $1 1 : $0 $1\n# ins $2 2 : $0 $1 $2\n15 recv # 3\n";
+/// letter. And a view that shows the last element of a replica, whose letter is `#`, before the first of that
+/// of `$`.
+const OF_THREE: (&str, &str) = (
+    "# ins $0 0 : $0\n# ins $1 1 : $0 $1\n# ins $2 2 : $0 $1 $2\n15 recv # 3\n",
+    "15 view : #2 $0\n",
+);
 
-/// A view that shows the last element of a replica, whose letter is `#`, before the first of that of `$`.
-const VIEW: &str = "15 view : #2 $0\n";
+/// The same of five inserts.
+const OF_FIVE: (&str, &str) = (
+    "# ins $0 0 : $0\n# ins $1 1 : $0 $1\n# ins $2 2 : $0 $1 $2\n# ins $3 3 : $0 $1 $2 $3\n# ins $4 4 : $0 $1 $2 $3 $4\n15 recv # 5\n",
+    "15 view : #4 $0\n",
+);
 
 /// Adds a pattern with these words for `#` and `$`.
 fn push_filled(text: &mut String, pattern: &str, hash: &str, dollar: &str) -> Result<(), Memory> {
@@ -228,44 +235,65 @@ fn push_filled(text: &mut String, pattern: &str, hash: &str, dollar: &str) -> Re
     Ok(())
 }
 
-/// Three elements of each of 15 replicas; then the last replica, which has received all, shows the last
-/// element of each before the first of the next one, once all the way round: 45 elements, more than the 40
-/// rows that four threads make in a turn.
-fn wide_ring_once(alloc: Global) -> Result<String, Memory> {
+/// Some elements of each of 15 replicas; then the last replica, which has received all, shows the last
+/// element of each before the first of the next one, once all the way round: 45 elements and more, and four
+/// threads make 40 rows in a turn. That of 45 has no more words in its table than places in its lists.
+fn wide_ring_once(alloc: Global, inserts: &str, view: &str) -> Result<String, Memory> {
     let mut text = String::new(alloc);
     text.push_str("trace 2\nreplicas 16\n")?;
     for (number, letter) in INSERTING.iter().copied() {
-        push_filled(&mut text, INSERTS, number, letter)?;
+        push_filled(&mut text, inserts, number, letter)?;
     }
     for i in 0..INSERTING.len() {
         let (_, letter) = INSERTING[i];
         let (_, next) = INSERTING[(i + 1) % INSERTING.len()];
-        push_filled(&mut text, VIEW, letter, next)?;
+        push_filled(&mut text, view, letter, next)?;
     }
     Ok(text)
 }
 
 /// The same; where the first try finds no memory, by a second.
-fn wide_ring(alloc: Global) -> Result<String, Memory> {
-    match wide_ring_once(alloc) {
-        Err(Memory) => wide_ring_once(alloc),
+fn wide_ring(alloc: Global, inserts: &str, view: &str) -> Result<String, Memory> {
+    match wide_ring_once(alloc, inserts, view) {
+        Err(Memory) => wide_ring_once(alloc, inserts, view),
         text => text,
     }
 }
 
-#[test]
-fn more_rows_than_threads_make_in_a_turn(rt: HostRuntime) -> Result<(), Memory> {
-    let text = wide_ring(rt.alloc())?;
-    let Some(wanted) = certified(&rt, rt.alloc(), text.as_str(), Way::RowByRow) else {
+/// Whether the certificate of the ring with these inserts and views is the same, however it is made.
+fn is_the_same_by_all(
+    rt: &(impl Threads + Sync),
+    alloc: Global,
+    inserts: &str,
+    view: &str,
+) -> Result<bool, Memory> {
+    let text = wide_ring(alloc, inserts, view)?;
+    let Some(wanted) = certified(rt, alloc, text.as_str(), Way::Whole) else {
         return Err(Memory);
     };
-    assert!(rt; wanted.as_slice().starts_with(b"cert 2\nrefused 30\nstep "));
-    for workers in [1, 2, 4] {
-        let way = Way::WithVerdict(workers);
-        let written = certified(&rt, rt.alloc(), text.as_str(), way);
+    if !wanted.as_slice().starts_with(b"cert 2\nrefused 30\nstep ") {
+        return Ok(false);
+    }
+    for way in [
+        Way::RowByRow,
+        Way::WithVerdict(1),
+        Way::WithVerdict(2),
+        Way::WithVerdict(4),
+    ] {
+        match certified(rt, alloc, text.as_str(), way) {
+            Some(text) if text.as_slice() == wanted.as_slice() => {},
+            _ => return Ok(false),
+        }
+    }
+    Ok(true)
+}
+
+#[test]
+fn more_rows_than_threads_make_in_a_turn(rt: HostRuntime) -> Result<(), Memory> {
+    for (inserts, view) in [OF_THREE, OF_FIVE] {
         assert!(rt;
-            written.is_some_and(|text| text.as_slice() == wanted.as_slice()),
-            "{workers}"
+            is_the_same_by_all(&rt, rt.alloc(), inserts, view)?,
+            "at {view}"
         );
     }
     Ok(())

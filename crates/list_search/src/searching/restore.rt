@@ -23,8 +23,8 @@ fn restore_at(graph: &OrderGraph, x: u32, i: u32, marks: &mut Vec<u32>)
     }
 }
 
-/// Sets the marks of the lists in which an element stands to the lists' ends.
-fn restore_marks(graph: &OrderGraph, x: u32, marks: &mut Vec<u32>)
+/// Sets the marks of the lists in which an element stands to the lists' ends, of marks one for each list.
+pub fn restore_marks(graph: &OrderGraph, x: u32, marks: &mut Vec<u32>)
     requires { vec_len marks.old ≡ length (lists_of graph.now) }
     ensures count { vec_len marks.new ≡ vec_len marks.old }
     ensures restored { (l : ℕ) → IsRestored (lists_of graph.now) x marks.old.items marks.new.items l }

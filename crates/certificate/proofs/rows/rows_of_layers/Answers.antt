@@ -17,14 +17,18 @@ loop-source-preserved c =
     let rows : List Row = c.loop-source.rows.items in
     let within : source < length elements = omega arith in
     let pushed : c.push.new.self.items ≡ rows ++ c.in_ok-row.row ∷ [] = c.in_ok-push.ensures.items in
-    subst (λ l. AreExactRows two v k l c.push.new.self.items) (sym (take_more elements source [] within))
-    (subst (λ l. AreExactRows two v k (take source elements ++ a ∷ []) l) (sym pushed)
-    (exact_rows_push two v k (take source elements) rows a c.in_ok-row.row c.loop-source.invariant
-    c.in_ok-row.ensures))
+    record {
+      way = c.in_ok-choose_way.ensures;
+      rows = subst (λ l. AreExactRows two v k l c.push.new.self.items)
+          (sym (take_more elements source [] within))
+          (subst (λ l. AreExactRows two v k (take source elements ++ a ∷ []) l) (sym pushed)
+          (exact_rows_push two v k (take source elements) rows a c.in_ok-row.row c.loop-source.invariant.rows
+          c.in_ok-row.ensures));
+    }
 
 pub returns : goal.returns
 returns c =
     let v = c.args.graph.now in
     let all : length v.elements ≤ c.loop-source.source = omega arith in
     subst (λ l. AreExactRows two v c.args.k l c.loop-source.rows.items)
-    (take_all c.loop-source.source v.elements all) c.loop-source.invariant
+    (take_all c.loop-source.source v.elements all) c.loop-source.invariant.rows

@@ -11,7 +11,7 @@ use Rattle.level_search.specs.Sources.{MeetsCycles}
 use Rattle.level_search.specs.Team.{AreLooksOf, IsLeastLength}
 use Rattle.level_search.specs.Thinned.{searched_of, IsThinned}
 use Rattle.level_search.specs.Ways.{IsWay}
-use Rattle.level_search.proofs.Thinned.{least-whole, searched-thinned, thinned-elements, thinned-places}
+use Rattle.level_search.proofs.ThinnedLists.{least-whole, searched-thinned, thinned-elements, thinned-places}
 use Rattle.level_search.proofs.Placed.{narrowed-places, within-searches}
 use Rattle.level_search.proofs.conflict.search_core.Goals as goal
 

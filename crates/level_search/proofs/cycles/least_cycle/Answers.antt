@@ -2,7 +2,7 @@
 use Rattle.std.proofs.Common.{sym, subst}
 use Rattle.level_search.proofs.Cores.{shortest_in_core, steps_of_core}
 use Rattle.level_search.specs.Thinned.{searched_of, IsThinned}
-use Rattle.level_search.proofs.Thinned.{searched-thinned}
+use Rattle.level_search.proofs.ThinnedLists.{searched-thinned}
 use Rattle.level_search.proofs.cycles.least_cycle.Goals.{In_ok-core}
 use Rattle.level_search.proofs.cycles.least_cycle.Goals as goal
 

@@ -4,7 +4,7 @@ use Rattle.level_search.specs.Steps.{AreStepsOf}
 use Rattle.level_search.proofs.StepsRound.{least_steps_of_ring}
 use Rattle.order_graph.specs.Lists.{lists_of}
 use Rattle.list_search.specs.Rings.{IsRing}
-use Rattle.level_search.proofs.Thinned.{first-ring-whole, shortest-thinned}
+use Rattle.level_search.proofs.ThinnedLists.{first-ring-whole, shortest-thinned}
 use Rattle.level_search.proofs.cycles.least_cycle_from.Goals as goal
 
 pub least_ring-requires-clause-least : goal.least_ring-requires-clause-least

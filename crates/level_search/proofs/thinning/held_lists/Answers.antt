@@ -3,7 +3,7 @@ use Rattle.std.proofs.lemmas.Bool.{cases_lt}
 use Rattle.std.proofs.lemmas.List.{get_or-replicate, get_or_past, length-replicate}
 use Rattle.order_graph.specs.Emptied.{is_marked}
 use Rattle.order_graph.specs.Lists.{lists_of}
-use Rattle.level_search.proofs.Thinned.{all-shown}
+use Rattle.level_search.proofs.ThinnedLists.{all-shown}
 use Rattle.level_search.proofs.thinning.held_lists.Goals as goal
 
 -- at first nothing is marked

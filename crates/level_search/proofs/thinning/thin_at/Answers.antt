@@ -1,7 +1,7 @@
 use Rattle.std.proofs.Common.{ℕ, List, subst, arith}
 use Rattle.order_graph.specs.Lists.{lists_of, row}
 use Rattle.level_search.specs.Thinned.{IsHeld}
-use Rattle.level_search.proofs.Thinned.{thinned-one}
+use Rattle.level_search.proofs.ThinnedLists.{thinned-one}
 use Rattle.level_search.proofs.thinning.thin_at.Goals as goal
 
 pub returns-then-is_held-clause-shown : goal.returns-then-is_held-clause-shown

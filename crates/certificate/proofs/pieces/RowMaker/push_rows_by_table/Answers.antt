@@ -1,7 +1,7 @@
 use Rattle.std.proofs.Common.{◌≡◌, take, drop, subst, arith}
 use Rattle.certificate.specs.ByRows.{AppendsRows}
 use Rattle.certificate.proofs.RowLines.{no_rows, rows_next_from}
-use Rattle.certificate.proofs.pieces.RowMaker.push_rows_from.Goals as goal
+use Rattle.certificate.proofs.pieces.RowMaker.push_rows_by_table.Goals as goal
 
 pub loop-i-init : goal.loop-i-init
 loop-i-init c = no_rows c.args.self.now.graph.now c.args.self.now.k c.args.text.now.items

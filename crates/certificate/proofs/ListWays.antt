@@ -1,11 +1,10 @@
--- Ways along a table of numbers are ways among the elements from the source on, so the layers of numbers are
+-- Ways along lists of numbers are ways among the elements from the source on, so the layers of numbers are
 -- those of an exact row.
-use Rattle.std.proofs.Common.{◌≡◌, ℕ, zero, suc, ◌+◌, ◌-◌, ◌/◌, ◌<◌, ◌≤◌, ◌⊎◌, inl, inr, Bool, true, false}
+use Rattle.std.proofs.Common.{◌≡◌, ℕ, zero, suc, ◌+◌, ◌-◌, ◌<◌, ◌≤◌, Bool, true, false}
 use Rattle.std.proofs.Common.{Some, List, [], ◌∷◌, Vec, Global, cond, drop, map, get_or, length, refl, sym}
 use Rattle.std.proofs.Common.{◌∙◌, arith, ap, subst}
 use Rattle.std.specs.Prelude.{All, Contains, bytes_eq, slice_get}
-use Rattle.std.proofs.lemmas.Bool.{cases_lt}
-use Rattle.std.proofs.lemmas.List.{get_or-map, get_or_default, get_or_past, length-map}
+use Rattle.std.proofs.lemmas.List.{get_or-map, get_or_default, length-map}
 use Rattle.std.proofs.lemmas.Option.{slice_get_within, slice_get-get_or, get_or_from_slice_get}
 use Rattle.std.proofs.lemmas.Slice.Eq.{bytes_eq-Decides}
 use Rattle.events.specs.Names.{NameBytes}
@@ -22,14 +21,12 @@ use Rattle.specification.proofs.Numbers.{number, number-rises}
 use Rattle.specification.proofs.Narrowed.{narrowed-shows, narrowed_shows-from}
 use Rattle.specification.proofs.Shown.{ShowsIn-from_Shows, Shows-from_ShowsIn, elements-once}
 use Rattle.order_graph.specs.Kept.{names_at}
-use Rattle.order_graph.specs.Lists.{lists_of, row}
+use Rattle.order_graph.specs.Lists.{lists_of}
 use Rattle.list_search.specs.Graph.{Before}
 use Rattle.list_search.proofs.Joining.{name, number-name, stands-names, stands-numbers, before-known}
-use Rattle.bit_tables.specs.Lists.{HasInOrder, IsShown}
 use Rattle.bit_tables.specs.Rule.{layer_at}
-use Rattle.bit_tables.specs.Ways.{IsStep, Way, IsDistance, IsLayerAt}
-use Rattle.bit_tables.proofs.WayLemmas.{row-within}
-use Rattle.certificate.specs.AfterTables.{IsAfterTable}
+use Rattle.list_layers.specs.Ways.{IsStep, Way, IsDistance, IsLayerAt}
+use Rattle.list_layers.proofs.Walking.{way_counts}
 
 -- the elements from one of them on are those from its place on
 pub from-drop : (es : List NameBytes) (s : ℕ) → Once es → s < length es
@@ -59,8 +56,7 @@ in-drop : (es : List NameBytes) (s i : ℕ) (y : NameBytes) → s ≤ i → slic
 in-drop es s i y le at =
     drop-get s (i - s) es ∙ ap (slice_get es) (let e : s + (i - s) ≡ i = omega (arith, le) in e) ∙ at
 
-module _ (v : Responses) (proper : AreProper v) (rows : List (List ℕ)) (table : IsAfterTable v rows) (s : ℕ)
-    (known : s < length v.elements) where
+module _ (v : Responses) (proper : AreProper v) (s : ℕ) (known : s < length v.elements) where
   abbrev source : NameBytes
   source = name v s
 
@@ -125,88 +121,48 @@ module _ (v : Responses) (proper : AreProper v) (rows : List (List ℕ)) (table 
       let f = narrowed_shows-from v among t.0 x y (ShowsIn-from_Shows left t.0 x y t.1) in
       (f.0, f.1, (t.0, Shows-from_ShowsIn v t.0 x y f.2))
 
-  shown-before : (a b : ℕ) → IsShown (lists_of v) a b → Before (lists_of v) a b
-  shown-before a b t =
-      let w = row (lists_of v) t.0 in
-      let s : HasInOrder w a b = t.2 in
-      record {
-        list = t.0;
-        place = s.0;
-        later = s.1;
-        in_order = s.2;
-        first = record { within = slice_get_within w s.0 a s.3; here = get_or_from_slice_get w s.0 a 0 s.3 };
-        second = record { within = slice_get_within w s.1 b s.4; here = get_or_from_slice_get w s.1 b 0 s.4 };
-      }
-
-  before-shown : (a b : ℕ) → Before (lists_of v) a b → IsShown (lists_of v) a b
-  before-shown a b t =
-      let w = row (lists_of v) t.list in (
-        t.list,
-        elim (cases_lt t.list (length (lists_of v))) [
-          | inl within ↦ within
-          | inr past ↦
-              let none : length w ≡ 0 = ap length (get_or_past (lists_of v) t.list [] past) in
-              let some = t.first.within in
-              absurd (omega (arith, none, some))
-        ],
-        (
-          t.place,
-          t.later,
-          t.in_order,
-          slice_get-get_or w t.place 0 t.first.within ∙ ap Some t.first.here,
-          slice_get-get_or w t.later 0 t.second.within ∙ ap Some t.second.here,
-        ),
-      )
-
   -- ways
-  way-counts : (j x : ℕ) → Way rows s j s x → s ≤ x
-  way-counts zero x way = subst (λ y. s ≤ y) way (omega arith)
-  way-counts (suc j) x way = way.2.to
-
-  way-names : (j x : ℕ) → x < length v.elements → Way rows s j s x → names.Way left j source (name v x)
+  way-names : (j x : ℕ) → x < length v.elements → Way (lists_of v) s j x → names.Way left j source (name v x)
   way-names zero x lt way = ap (name v) way
   way-names (suc j) x lt way =
       let c : ℕ = way.0 in
-      let step : IsStep rows s c x = way.2 in
-      let within : c < length v.elements =
-      (let low = row-within rows c x step.has in omega (arith, low, table.len)) in (
+      let step : IsStep (lists_of v) s c x = way.2 in
+      let within : c < length v.elements = (before-known v proper c x step.shown).0 in (
         name v c,
         way-names j c within way.1,
         narrow-stands (name v c) (name v x) (name-among c within step.from) (name-among x lt step.to)
-            (stands-names v proper c x (shown-before c x ((table.shown c x within lt).0 step.has))),
+            (stands-names v proper c x step.shown),
       )
 
-  way-numbers : (j : ℕ) (y : NameBytes) → names.Way left j source y → Way rows s j s (number v.elements y)
+  way-numbers : (j : ℕ) (y : NameBytes) → names.Way left j source y → Way (lists_of v) s j (number v.elements y)
   way-numbers zero y way = sym (number-name v proper s known) ∙ ap (number v.elements) way
   way-numbers (suc j) y way =
       let c : NameBytes = way.0 in
       let f = narrow_stands-from c y way.2 in
       let before : Before (lists_of v) (number v.elements c) (number v.elements y) =
       stands-numbers v proper c y f.2 in
-      let within = before-known v proper (number v.elements c) (number v.elements y) before in
-      let step : IsStep rows s (number v.elements c) (number v.elements y) = record {
+      let step : IsStep (lists_of v) s (number v.elements c) (number v.elements y) = record {
         from = among-number c f.0;
         to = among-number y f.1;
-        has = (table.shown (number v.elements c) (number v.elements y) within.0 within.1).1
-            (before-shown (number v.elements c) (number v.elements y) before);
+        shown = before;
       } in
       (number v.elements c, way-numbers j c way.1, step)
 
   -- a layer of numbers is a layer of names
-  module _ (d : ℕ) (layer : List ℕ) (is : IsLayerAt (length v.elements) rows s s d layer) where
+  module _ (d : ℕ) (layer : List ℕ) (is : IsLayerAt (length v.elements) (lists_of v) s d layer) where
     layer-names : (x : NameBytes) → In x (names_at v.elements layer)
         → In x among × names.IsDistance left d source x
     layer-names x i =
         let t : (y : ℕ) × In y layer × (x ≡ name v y) = In_map-from (name v) x layer i in
         let p = (is.has t.0).0 (Contains-from_In layer t.0 t.1) in
-        let way : Way rows s d s t.0 = p.1.way in
+        let way : Way (lists_of v) s d t.0 = p.1.way in
         subst (λ (z : NameBytes). In z among × names.IsDistance left d source z) (sym t.2) (
-          name-among t.0 p.0 (way-counts d t.0 way),
+          name-among t.0 p.0 (way_counts (lists_of v) s d t.0 way),
           (
             way-names d t.0 p.0 way,
             λ fewer lt shorter.
                 p.1.shortest fewer lt
-                (subst (λ y. Way rows s fewer s y) (number-name v proper t.0 p.0)
+                (subst (λ y. Way (lists_of v) s fewer y) (number-name v proper t.0 p.0)
                 (way-numbers fewer (name v t.0) shorter)),
           ),
         )
@@ -217,8 +173,8 @@ module _ (v : Responses) (proper : AreProper v) (rows : List (List ℕ)) (table 
         let p = among-place x i in
         let lt : p.0 < length v.elements = slice_get_within v.elements p.0 x p.2 in
         let named : name v p.0 ≡ x = get_or_from_slice_get v.elements p.0 x [] p.2 in
-        let near : IsDistance rows s d s p.0 = record {
-          way = subst (λ y. Way rows s d s y) (numbered p.0 x p.2) (way-numbers d x distance.0);
+        let near : IsDistance (lists_of v) s d p.0 = record {
+          way = subst (λ y. Way (lists_of v) s d y) (numbered p.0 x p.2) (way-numbers d x distance.0);
           shortest =
               λ fewer less shorter. distance.1 fewer less
               (subst (λ z. names.Way left fewer source z) named (way-names fewer p.0 lt shorter));
@@ -255,7 +211,7 @@ module _ (v : Responses) (proper : AreProper v) (rows : List (List ℕ)) (table 
           let less : number among (name v (get_or layer k 0))
           < number among (name v (get_or layer (k + 1) 0)) =
           number-among (get_or layer k 0) (get_or layer (k + 1) 0)
-          (way-counts d (get_or layer k 0) first.1.way) (is.rising k next) second.0 in
+          (way_counts (lists_of v) s d (get_or layer k 0) first.1.way) (is.rising k next) second.0 in
           subst (λ n. n < get_or (numbers_in among (names_at v.elements layer)) (k + 1) 0)
           (sym (number-there k here))
           (subst (λ n. number among (name v (get_or layer k 0)) < n) (sym (number-there (k + 1) next)) less);
@@ -263,7 +219,7 @@ module _ (v : Responses) (proper : AreProper v) (rows : List (List ℕ)) (table 
 
   -- the row with these layers
   pub exact_row : (k : ℕ) (layers : List (Vec ℕ Global)) → 1 ≤ k → length layers ≡ k - 1
-      → ((d : ℕ) → d < k - 1 → IsLayerAt (length v.elements) rows s s d (layer_at layers d))
+      → ((d : ℕ) → d < k - 1 → IsLayerAt (length v.elements) (lists_of v) s d (layer_at layers d))
       → names.IsExactRow (row_responses two v source) k source
       (map (λ (layer : Vec ℕ Global). names_at v.elements layer.items) layers)
   exact_row k layers some count each = record {
@@ -293,11 +249,11 @@ module _ (v : Responses) (proper : AreProper v) (rows : List (List ℕ)) (table 
       some_layer (x ∷ all) lt = x
 
 -- layers at distances have only numbers below n
-pub within-layers : (n count source : ℕ) (rows : List (List ℕ)) (layers : List (Vec ℕ Global))
+pub within-layers : (n count source : ℕ) (lists : List (List ℕ)) (layers : List (Vec ℕ Global))
     → length layers ≡ count
-    → ((d : ℕ) → d < count → IsLayerAt n rows source source d (layer_at layers d))
+    → ((d : ℕ) → d < count → IsLayerAt n lists source d (layer_at layers d))
     → All (λ (layer : Vec ℕ Global). All (λ x. x < n) layer.items) layers
-within-layers n count source rows layers size each i v lt j e inside =
+within-layers n count source lists layers size each i v lt j e inside =
     let layer : Vec ℕ Global = get_or layers i v in
     let x : ℕ = get_or layer.items j e in
     let kept : layer_at layers i ≡ layer.items =

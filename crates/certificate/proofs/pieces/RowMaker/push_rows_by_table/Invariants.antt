@@ -1,6 +1,6 @@
 use Rattle.std.proofs.Common.{take, drop}
 use Rattle.certificate.specs.ByRows.{AppendsRows}
-use Rattle.certificate.proofs.pieces.RowMaker.push_rows_from.Given as goal
+use Rattle.certificate.proofs.pieces.RowMaker.push_rows_by_table.Given as goal
 
 abbrev pub invariant-loop-i : goal.invariant-loop-i
 invariant-loop-i l =
