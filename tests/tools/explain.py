@@ -116,13 +116,18 @@ WORDS = [
     ("a delete that takes two others along at its author's", 1, "0 ins a 0 : a|0 ins b 1 : a b|0 ins c 2 : a b c|0 del a :",
      "Where to look|It looks as if 0.4 (line 6), applied at replica 0, deleted b and c too: b and c stood there in 0.3 (line 5), and no change that has come since deletes "
      "them. Look at which elements a replica deletes there: from where on, and how many." + stop(6, "replica 0 deletes a")),
+    ("an insert that stands too far behind, though its name has the greater number", 1, "0 ins e1-0 0 : e1-0|0 ins e2-0 1 : e1-0 e2-0|0 del e1-0 : e2-0|0 ins e4-0 0 : e2-0 e4-0",
+     "asked for: position 0; the answer has [e2-0] there|found at: position 1||Where to look|"
+     "Look at how the position that a user sees is mapped to a place in the editor's own list (deleted elements may still stand there); and "
+     "at whether the recorder writes the position that was asked for.|If the list is sorted by position identifiers, print those of e4-0 and e2-0 at line 6. If they do not "
+     "rise in this order, look at how the one of e4-0 was made; if they do, at how identifiers are compared (numbers must not be compared as text)." + stop(6, "replica 0 inserts e4-0")),
     ("an insert that had seen the other", 2, "0 ins a 0 : a|1 recv 0 1|1 ins b 1 : a b|0 recv 1 1|0 read : b a",
      "refused 2: two responses can't be right together.|"
      "[a] before [b]: line 5 of the trace, 1.1: replica 1 inserted b at position 1, answered [a] [b]|"
      "[b] before [a]: line 7, 0.2: replica 0 read the list, answered [b] [a]|"
      "a arrived at replica 1 in line 4, b at replica 0 in line 6|"
      "Look at where a replica places an incoming insert: replica 1 had [a] already when it inserted [b] (1.1, line 5), and so fixed the "
-     "order of the two; yet two responses differ about it. Often the clock that decides between inserts does not advance when changes arrive, or the neighbour is not found.|"
+     "order of the two; yet two responses differ about it. Often the clock that decides between inserts does not advance when changes arrive, or the neighbour is not found; or elements are stored in runs, and a run is split at another place than behind the neighbour (deleted elements count too).|"
      "If the list is sorted by position identifiers, print those of a and b at line 5. If they do not rise in this order, look at how the "
      "one of b was made; if they do, at how identifiers are compared (numbers must not be compared as text)." + stop(6, "replica 0 applies 1.1", 4)),
     ("three-way cycle", 3, THREE_WAY,
@@ -150,7 +155,7 @@ WORDS = [
      "If inserts find their place by a neighbour, look at inserts beside deleted elements: the lines "
      "above name an insert that arrived where its neighbour had been deleted. If replicas throw deleted elements away, nothing says then where the insert belongs; if they keep them, the search for its place must pass them as it passes those that are shown.|"
      "Look at where a replica places an incoming insert: replica 0 had [c] already when it inserted [d] (0.3, line 9), and so fixed the "
-     "order of the two; yet two responses differ about it. Often the clock that decides between inserts does not advance when changes arrive, or the neighbour is not found.|"
+     "order of the two; yet two responses differ about it. Often the clock that decides between inserts does not advance when changes arrive, or the neighbour is not found; or elements are stored in runs, and a run is split at another place than behind the neighbour (deleted elements count too).|"
      "If the list is sorted by position identifiers, print those of b, d and c at line 9. If they do not rise in this order, look at how "
      "the one of d was made; if they do, at how identifiers are compared (numbers must not be compared as text).|If the editor "
      "sends positions, the position of d was perhaps not adjusted for the delete of b by 1.2 (line 8), which replica 1 knew and the author of d did not." + stop(10, "replica 1 applies 0.3", 6)),
@@ -397,7 +402,7 @@ WORDS = [
     ("an insert that another one at its place has shifted", 2, "0 ins b 0 : b|0 ins c 0 : c b|1 ins a 0 : a|1 recv 0 1|1 read : a b|1 recv 0 2|"
      "1 read : a b c",
      "Look at where a replica places an incoming insert: replica 0 had [b] already when it inserted [c] (0.2, line 4), and so fixed the order "
-     "of the two; yet two responses differ about it. Often the clock that decides between inserts does not advance when changes arrive, or the neighbour is not found. a was inserted at the same "
+     "of the two; yet two responses differ about it. Often the clock that decides between inserts does not advance when changes arrive, or the neighbour is not found; or elements are stored in runs, and a run is split at another place than behind the neighbour (deleted elements count too). a was inserted at the same "
      "place as c, and neither author had seen the other's insert. Look also at which of them comes first." + stop(8, "replica 1 applies 0.2", 6)),
     ("a receipt that comes before the change is applied", 2, "0 ins a 0 : a|1 recv 0 1|1 read : a|0 ins b 1 : a b|0 del a : b|1 recv 0 3|1 read : a",
      "contents 1.2: this response lacks one element that replica 1 should have had by then, and has one element that should not be there.||"
@@ -425,7 +430,7 @@ WORDS = [
     ("a delete that meets an insert which did not know it", 2, "0 ins a 0 : a|0 ins b 1 : a b|0 ins c 2 : a b c|1 recv 0 3|1 read : a b c|1 del a : b c|"
      "0 ins d 2 : a b d c|1 recv 0 4|1 read : b c d",
      "Look at where a replica places an incoming insert: replica 0 had [c] already when it inserted [d] (0.4, line 9), and so fixed the "
-     "order of the two; yet two responses differ about it. Often the clock that decides between inserts does not advance when changes arrive, or the neighbour is not found.|If the editor "
+     "order of the two; yet two responses differ about it. Often the clock that decides between inserts does not advance when changes arrive, or the neighbour is not found; or elements are stored in runs, and a run is split at another place than behind the neighbour (deleted elements count too).|If the editor "
      "sends positions, the position of d was perhaps not adjusted for the delete of a by 1.2 (line 8), which replica 1 knew and the author of d did not." + stop(10, "replica 1 applies 0.4", 6)),
     ("a delete that becomes nothing beside an insert that its author did not know", 2, "0 ins a 0 : a|1 recv 0 1|1 read : a|0 del a :|"
      "1 ins b 0 : b a|1 recv 0 2|1 read : b a",

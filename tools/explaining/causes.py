@@ -3,6 +3,7 @@
 Each cause has a name of its own, by which failures that look alike are put together."""
 from __future__ import annotations
 
+import re
 from typing import NamedTuple
 
 from .evidence import Evidence
@@ -60,7 +61,8 @@ LOST_OR_OVERTAKEN = ("Look first at whether {name} was lost on its way to replic
 LOST_NEIGHBOUR = ("If inserts find their place by a neighbour, look at inserts beside deleted elements: when {element} arrived, its neighbour was "
                   "already deleted there, as told above. An editor that throws deleted elements away too early finds no place for it, and loses it or "
                   "holds it back for ever.")
-NUMBERS_OF_INSERTS = " Often the clock that decides between inserts does not advance when changes arrive, or the neighbour is not found."
+NUMBERS_OF_INSERTS = (" Often the clock that decides between inserts does not advance when changes arrive, or the neighbour is not found; or elements are stored "
+                      "in runs, and a run is split at another place than behind the neighbour (deleted elements count too).")
 IDENTIFIERS = ("If the list is sorted by position identifiers, print those of {names} at line {line}. If they do not rise in this order, look at how the "
                "one of {element} was made; if they do, at how identifiers are compared (numbers must not be compared as text).")
 SORTED = ("If the list is sorted by position identifiers, look at those of {names}: are {two} equal, does one differ between "
@@ -318,8 +320,16 @@ def of_position(evidence: Evidence) -> list:
         return [Cause("mapping", mapped), *sorted_by]
     passed = response[asked:response.index(name)]
     theirs = "theirs" if passed[1:] else f"that of {passed[0]}"
+    if has_delete and is_younger_by_name(name, passed):
+        return [Cause("mapping", mapped), *sorted_by]
     return [Cause("numbers", NUMBERS.format(element=name, passed=listed(passed, MOST_TOLD), replica=operation.replica, theirs=theirs)),
             *sorted_by, Cause("mapping", otherwise("If neither fits your editor" if sorted_by else "If that does not fit your editor", mapped))]
+
+
+def is_younger_by_name(name: str, others: list) -> bool:
+    """Whether the names come from ids as 7@2, a clock's number first, and that of the one is greater than the others' already."""
+    numbers = [re.match(r"e(\d+)-", one) for one in (name, *others)]
+    return all(numbers) and all(int(numbers[0][1]) > int(number[1]) for number in numbers[1:])
 
 
 def reordered(evidence: Evidence) -> list:
