@@ -62,7 +62,7 @@ def stop(line: int, doing: str, *others: int, together: int = 0) -> str:
     doing += f"; if nothing is wrong there, stop at {'another arrival' if len(others) == 1 else 'other arrivals'} ({before})" if others else ""
     asked = f"if recording.lines() == {line - 1}: breakpoint()"
     where = "where your code reads the list" if "reads the list" in doing else "where your code begins to apply a change, local or remote"
-    or_first = f", or {together - 1} if the {line - together + 1} `recv` lines up to there were written in one go" if together else ""
+    or_first = f"; or {together - 1}, if lines {together} to {line} were written in one go" if together else ""
     asked = f"if recording.lines() in ({together - 1}, {line - 1}): breakpoint()" if together else asked
     where += f" (the recording has {line - 1} lines then{or_first})"
     return f"|In a debugger|stop before line {line} of the trace, where {doing}. In Python, put this {where}: {asked}"
@@ -84,24 +84,24 @@ WORDS = [
      "a: inserted by 0.1 (line 3)|b: inserted by 1.1 (line 4)|"
      "b arrived at replica 0 in line 5, a at replica 1 in line 6|"
      "Look at the order of concurrent inserts: a and b were inserted at the front without knowing of each other, and were shown in two different orders. "
-     "Use a rule that gives the same order everywhere (such as the replicas' numbers), and not the order of arrival or a number set on arrival; nor may a shortcut pass it by.|"
+     "Use a rule that gives the same order everywhere (such as the replicas' numbers), and not the order of arrival or a number set on arrival. No fast path in the code may skip that rule.|"
      "If the list is sorted by position identifiers, look at those of a and b: are the two equal, does one differ between replicas, or are numbers "
      "compared as text?" + stop(6, "replica 1 applies 0.1", 5)),
     ("a replica that turns two elements round when it deletes another", 2, "0 ins a 0 : a|1 ins b 0 : b|1 recv 0 1|1 read : a b|1 ins c 2 : a b c|1 del c : b a",
      "[b] before [a]: line 8, 1.4: replica 1 deleted c, answered [b] [a]|Where to look|"
      "Replica 1 itself changed the order of elements that it had shown: a before b in 1.3 (line 7), b before a in 1.4 (line 8). Between the two it "
-     "deleted c. Look at what decides which of b and a comes first: that must be fixed once both are inserted, and may not hang on what is inserted, "
-     "deleted or received later." + stop(8, "replica 1 deletes c", 5)),
+     "deleted c. Look at what decides which of b and a comes first: once both are inserted, it must never change, whatever is inserted, deleted "
+     "or received later." + stop(8, "replica 1 deletes c", 5)),
     ("a replica that turns two elements round when others' changes come", 2, "0 ins a 0 : a|1 ins b 0 : b|1 recv 0 1|1 read : a b|0 ins c 1 : a c|0 del c : a|"
      "1 recv 0 3|1 read : b a", "Where to look|"
      "Replica 1 itself changed the order of elements that it had shown: a before b in 1.2 (line 6), b before a in 1.3 (line 10). Between the two it "
-     "received the insert of c by 0.2 (line 7) and the delete of c by 0.3 (line 8). Look at what decides which of b and a comes first: that must be "
-     "fixed once both are inserted, and may not hang on what is inserted, deleted or received later." + stop(9, "replica 1 applies 0.3", 5)),
+     "received the insert of c by 0.2 (line 7) and the delete of c by 0.3 (line 8). Look at what decides which of b and a comes first: once both "
+     "are inserted, it must never change, whatever is inserted, deleted or received later." + stop(9, "replica 1 applies 0.3", 5)),
     ("an insert that turns two others round", 1, "0 ins a 0 : a|0 ins b 1 : a b|0 ins c 2 : b c a",
-     "line 5 of the trace, 0.3: replica 0 inserted c at position 2|before: [a] b by 0.2 (line 4)|answered: b [c] [a]|asked for: position 2; the answer has [a] there|"
+     "line 5 of the trace, 0.3: replica 0 inserted c at position 2|before: [a] b, answered by 0.2 (line 4)|answered: b [c] [a]|asked for: position 2; the answer has [a] there|"
      "found at: position 1||Where to look|Replica 0 itself changed the order of elements that it had shown: a before b in 0.2 (line 4), b before a in 0.3 (line 5). "
-     "Between the two it inserted c. Look at what decides which of b and a comes first: that must be fixed once both are inserted, and may not hang on "
-     "what is inserted, deleted or received later.|If that is not the cause: look at how the position that a user sees is mapped to a place in the editor's "
+     "Between the two it inserted c. Look at what decides which of b and a comes first: once both are inserted, it must never change, "
+     "whatever is inserted, deleted or received later.|If that is not the cause: look at how the position that a user sees is mapped to a place in the editor's "
      "own list; and at whether the recorder writes the position that was asked for." + stop(5, "replica 0 inserts c")),
     ("deletes that come together, of which the first finds nothing", 2, "0 ins a 0 : a|0 ins b 1 : a b|0 ins c 2 : a b c|1 recv 0 3|1 read : a b c|1 del a : b c|"
      "0 del a : b c|0 del b : c|1 recv 0 5|1 read : b c", "Where to look|"
@@ -112,10 +112,10 @@ WORDS = [
      "element (is the whole id compared?)." + stop(11, "replica 1 applies 0.5")),
     ("a delete that takes its neighbour along", 2, "0 ins a 0 : a|0 ins b 1 : a b|0 ins c 2 : a b c|1 recv 0 3|1 read : a b c|0 del a : b c|1 recv 0 4|1 read : c",
      "Where to look|It looks as if 0.4 (line 8), applied at replica 1, deleted b too: b stood there in 1.1 (line 7), and no change that has come since deletes "
-     "it. Look at which elements a replica deletes there: from where on, and how many." + stop(9, "replica 1 applies 0.4")),
+     "it. Look at where the replica begins to delete there, and at how many elements it deletes." + stop(9, "replica 1 applies 0.4")),
     ("a delete that takes two others along at its author's", 1, "0 ins a 0 : a|0 ins b 1 : a b|0 ins c 2 : a b c|0 del a :",
      "Where to look|It looks as if 0.4 (line 6), applied at replica 0, deleted b and c too: b and c stood there in 0.3 (line 5), and no change that has come since deletes "
-     "them. Look at which elements a replica deletes there: from where on, and how many." + stop(6, "replica 0 deletes a")),
+     "them. Look at where the replica begins to delete there, and at how many elements it deletes." + stop(6, "replica 0 deletes a")),
     ("an insert that stands too far behind, though its name has the greater number", 1, "0 ins e1-0 0 : e1-0|0 ins e2-0 1 : e1-0 e2-0|0 del e1-0 : e2-0|0 ins e4-0 0 : e2-0 e4-0",
      "asked for: position 0; the answer has [e2-0] there|found at: position 1||Where to look|"
      "Look at how the position that a user sees is mapped to a place in the editor's own list (deleted elements may still stand there); and "
@@ -126,7 +126,7 @@ WORDS = [
      "[a] before [b]: line 5 of the trace, 1.1: replica 1 inserted b at position 1, answered [a] [b]|"
      "[b] before [a]: line 7, 0.2: replica 0 read the list, answered [b] [a]|"
      "a arrived at replica 1 in line 4, b at replica 0 in line 6|"
-     "Look at where a replica places an incoming insert: replica 1 had [a] already when it inserted [b] (1.1, line 5), and so fixed the "
+     "Look at where a replica places an incoming insert: replica 1 had [a] already when it inserted [b] (1.1, line 5), and so settled the "
      "order of the two; yet two responses differ about it. Often the clock that decides between inserts does not advance when changes arrive, or the neighbour is not found; or elements are stored in runs, and a run is split at another place than behind the neighbour (deleted elements count too).|"
      "If the list is sorted by position identifiers, print those of a and b at line 5. If they do not rise in this order, look at how the "
      "one of b was made; if they do, at how identifiers are compared (numbers must not be compared as text)." + stop(6, "replica 0 applies 1.1", 4)),
@@ -153,8 +153,8 @@ WORDS = [
      "d was put behind b. When it arrived at replica 1 in line 10, b was already deleted there by 1.2 (line 8)|"
      "c arrived at replica 0 in line 6, d at replica 1 in line 10||Where to look|"
      "If inserts find their place by a neighbour, look at inserts beside deleted elements: the lines "
-     "above name an insert that arrived where its neighbour had been deleted. If replicas throw deleted elements away, nothing says then where the insert belongs; if they keep them, the search for its place must pass them as it passes those that are shown.|"
-     "Look at where a replica places an incoming insert: replica 0 had [c] already when it inserted [d] (0.3, line 9), and so fixed the "
+     "above name an insert that arrived where its neighbour had been deleted. If replicas throw deleted elements away, nothing says then where the insert belongs; if they keep them, the search for its place must treat them like elements that are shown.|"
+     "Look at where a replica places an incoming insert: replica 0 had [c] already when it inserted [d] (0.3, line 9), and so settled the "
      "order of the two; yet two responses differ about it. Often the clock that decides between inserts does not advance when changes arrive, or the neighbour is not found; or elements are stored in runs, and a run is split at another place than behind the neighbour (deleted elements count too).|"
      "If the list is sorted by position identifiers, print those of b, d and c at line 9. If they do not rise in this order, look at how "
      "the one of d was made; if they do, at how identifiers are compared (numbers must not be compared as text).|If the editor "
@@ -162,15 +162,15 @@ WORDS = [
     ("an insert between two that were put together", 2, "0 ins a 0 : a|0 ins b 1 : a b|1 ins c 0 : c|1 recv 0 2|1 read : a c b|0 recv 1 1|0 read : a b c",
      "[c] before [b]: line 7, 1.2: replica 1 read the list, answered a [c] [b]|Where to look|"
      "1.2 (line 7) shows [c] between [a] and [b], which was put directly behind [a]; the author of [c] knew neither. If inserts find their place by a "
-     "neighbour, look at how [c] found its place there: what is moved past [a] must also be moved past all that was put behind [a].|"
+     "neighbour, look at how [c] found its place there: if the search skips [a], it must also skip all that was put behind [a].|"
      "Look at the order of concurrent inserts: b and c were inserted without knowing of each other, and were shown in two different orders. Use a rule that "
-     "gives the same order everywhere (such as the replicas' numbers), and not the order of arrival or a number set on arrival; nor may a shortcut pass it by."),
+     "gives the same order everywhere (such as the replicas' numbers), and not the order of arrival or a number set on arrival. No fast path in the code may skip that rule."),
     ("an insert behind what the other author did not know, which is deleted", 2, "0 ins a 0 : a|0 ins b 1 : a b|0 del a : b|1 ins c 0 : c|1 recv 0 3|"
      "1 read : c b|0 recv 1 1|0 read : b c", "Where to look|"
      "Look at the order of concurrent inserts: b and c were inserted without knowing of each other, and were shown in two different orders. Use a rule that "
-     "gives the same order everywhere (such as the replicas' numbers), and not the order of arrival or a number set on arrival; nor may a shortcut pass it by.|"
+     "gives the same order everywhere (such as the replicas' numbers), and not the order of arrival or a number set on arrival. No fast path in the code may skip that rule.|"
      "[b] was put directly behind [a]; the author of [c] did not know [a]. If inserts find their place by a neighbour, look at how [c] found its "
-     "place: what is moved past [a] must also be moved past all that was put behind [a]."),
+     "place: if the search skips [a], it must also skip all that was put behind [a]."),
     ("an insert between two that are deleted by others", 3, "0 ins a 0 : a|0 ins b 1 : a b|1 recv 0 2|2 recv 0 2|2 ins c 1 : a c b|1 del a : b|"
      "0 del b : a|1 recv 0 3|1 read :|1 ins d 0 : d|1 recv 2 1|1 read : c d|2 recv 1 3|2 read : d c",
      "[d] before [c]: line 16 of the trace, 2.2: replica 2 read the list, answered [d] [c]|"
@@ -192,7 +192,7 @@ WORDS = [
      "by the receipts, replicas 0 and 1 have every change in the end, and show the same list||Where to look" + stop(10, "replica 1 applies 0.3", 6)),
     ("a beginning that shows something else", 3, f"{THREE_WAY}|1 recv 0 2|1 recv 2 1|1 read : a b",
      "refused 3: three responses can't be right together. Any two of them can. This is what went wrong first, within the "
-     "first 11 lines. The verdict on the whole trace is `refused 2`: see the end.||"
+     "first 11 lines. The verdict on the whole trace is `refused 2` (told below).||"
      "When it went wrong|line 11 of the trace, 0.3: replica 0 read the list. Up to line 10 the session is accepted; line 11 leads to "
      "`refused 3`|"
      "before it: replica 0's 0.2 (line 8) fits; since then it received 1.1 (line 9), 2.1 (line 10)|"
@@ -207,11 +207,11 @@ WORDS = [
      "Look at positions beside deleted elements: any two of 2.1, 0.3 and 1.1 fit together, all three don't; perhaps an insert lost its place "
      "because its neighbour was deleted elsewhere. The lines above say which elements each response no longer has.|"
      "For the verdict on the whole trace (below): if inserts find their place by a neighbour, look at inserts beside deleted elements: the lines "
-     "above name an insert that arrived where its neighbour had been deleted. If replicas throw deleted elements away, nothing says then where the insert belongs; if they keep them, the search for its place must pass them as it passes those that are shown.|"
+     "above name an insert that arrived where its neighbour had been deleted. If replicas throw deleted elements away, nothing says then where the insert belongs; if they keep them, the search for its place must treat them like elements that are shown.|"
      "For the verdict on the whole trace (below): look at the order of concurrent inserts: a and b were inserted without knowing of each other, and were shown in two "
      "different orders. Use a rule that gives the same order everywhere (such as the replicas' numbers), and not the order of "
-     "arrival or a number set on arrival; nor may a shortcut pass it by.|For the verdict on the whole trace (below): if the editor sends positions, the position of b was perhaps not adjusted for the delete of x by 0.2 (line 8), which replica 1 "
-     "knew and the author of b did not; or the position of the delete was not adjusted for an insert that its author had not seen.|"
+     "arrival or a number set on arrival. No fast path in the code may skip that rule.|For the verdict on the whole trace (below): if the editor sends positions, the position of b was perhaps not adjusted for the delete of x by 0.2 (line 8), which replica 1 "
+     "knew and the author of b did not; or the position of the delete was not adjusted for an insert that the author of the delete had not seen.|"
      "" + stop(10, "replica 0 applies 2.1", 9, 5, 4, together=9) + "||What the whole trace shows: a circle, which no order allows|"
      "[a] before [b]: line 14, 1.2: replica 1 read the list, answered [a] [b]|"
      "[b] before [a]: line 11, 0.3: replica 0 read the list, answered [b] [a]"),
@@ -249,8 +249,8 @@ WORDS = [
      "contents 2.1: this response lacks one element that replica 2 should have had by then.|"
      "line 7 of the trace, 2.1: replica 2 read the list|answered: b|it should hold, in any order: b [a]|"
      "before it: replica 2 did nothing, and received 1.1 (line 6)|Missing|"
-     "[a] inserted by 0.1 (line 3), which arrived at replica 1 in line 4 (1 recv 0 1), and from there "
-     "counts as arrived at replica 2 with 1.1 in line 6 (2 recv 1 1)|[a] 0.1 has no receipt of its own at replica 2, and counts as arrived with 1.1, in line 6, since the author of 1.1 had 0.1. If "
+     "[a] inserted by 0.1 (line 3), which arrived at replica 1 in line 4 (1 recv 0 1), and "
+     "counts as arrived at replica 2 with 1.1, which had it, in line 6 (2 recv 1 1)|[a] 0.1 has no receipt of its own at replica 2, and counts as arrived with 1.1, in line 6, since the author of 1.1 had 0.1. If "
      "each operation travels by itself, 1.1 arrived without 0.1: that is not causal order|[a] no operation deletes it||Where to look|"
      "Look first at whether 0.1 was lost on its way to replica 2: no receipt there names it. If it was not lost but overtaken, look at the order in which "
      "operations arrive. Apply an operation only after everything that its author had seen, or send all of that together with it. If the editor itself holds "
@@ -267,7 +267,7 @@ WORDS = [
      "answered: (nothing)|it should hold, in any order: [a]|"
      "before it: replica 0's 0.1 (line 3) is right; since then it received nothing|"
      "[a] inserted by 0.1 (line 3), an earlier operation of replica 0|"
-     "[a] deleted by 1.1 (line 5), and replica 0's first receipt of it is line 7 (0 recv 1 1), after this response" + stop(6, "replica 0 reads the list")),
+     "[a] deleted by 1.1 (line 5), and replica 0's first receipt of 1.1 is line 7 (0 recv 1 1), after this response" + stop(6, "replica 0 reads the list")),
     ("a deleted element shown", 2, "0 ins a 0 : a|0 del a :|1 recv 0 2|1 read : a",
      "contents 1.1: this response has one element that should not be there.|"
      "answered: [a]|it should hold, in any order: (nothing)|Extra|"
@@ -334,9 +334,9 @@ WORDS = [
     ("an insert whose number is not great enough", 2, "0 ins a 0 : a|0 ins b 0 : b a|1 recv 0 2|1 ins c 0 : b c a",
      "position 1.1: c is not at the position that was asked for.|asked for: position 0; the answer has [b] there|found at: position 1||"
      "Where to look|"
-     "If the editor decides by numbers (a clock, ids) which of two inserts at one place comes first, look at these: c stands behind b, which replica 1 had "
+     "If the editor decides by numbers (a clock, ids) which of two inserts at one place comes first, look at theirs: c stands behind b, which replica 1 had "
      "already. The number that c has must be greater than that of b; perhaps it is not. Usual causes: the clock does not advance when changes arrive; "
-     'replicas are compared before clocks; ids are compared as text, so 10 comes before 9.|If the list is sorted by position identifiers, print those of c and b at line 6. If they do not rise in this order, look '
+     'the replica\'s number is compared before the clock; ids are compared as text, so 10 comes before 9.|If the list is sorted by position identifiers, print those of c and b at line 6. If they do not rise in this order, look '
      'at how the one of c was made; if they do, at how identifiers are compared (numbers must not be compared as text).|If neither fits your editor: look at how the position that a user sees is mapped to a place '
      "in the editor's own list; and at whether the recorder writes the position that was asked for." + stop(6, "replica 1 inserts c")),
     ("a position before the one that was asked for, beside a deleted element", 1, "0 ins a 0 : a|0 ins b 1 : a b|0 del a : b|0 ins c 1 : c b",
@@ -390,20 +390,20 @@ WORDS = [
      "Look first at whether 0.2 (line 4) was lost on its way to replica 1, or overtaken: no receipt there names it, though all other changes of "
      "replica 0 have one. In an editor that sends positions, later changes then land in the wrong place.|"
      "Look at the order of concurrent inserts: c and y were inserted directly behind a without knowing of each other, and were shown in two different orders. Use a "
-     "rule that gives the same order everywhere (such as the replicas' numbers), and not the order of arrival or a number set on arrival; nor may a shortcut pass it by."),
+     "rule that gives the same order everywhere (such as the replicas' numbers), and not the order of arrival or a number set on arrival. No fast path in the code may skip that rule."),
     ("a delete that meets an insert and a delete which did not know each other", 2, "0 ins a 0 : a|0 ins b 1 : a b|0 ins c 2 : a b c|1 recv 0 3|"
      "1 read : a b c|0 del a : b c|1 ins d 3 : a b c d|0 recv 1 2|0 read : b c d|1 del c : a b d|0 recv 1 3|0 read : b c",
      "It looks as if 1.3 (line 12), applied at replica 0, deleted d instead of c: look at how a replica that applies a delete finds the element, and at whether the recorder "
-     "names the element that was deleted.|If the editor sends positions, the position of 1.3 was perhaps not adjusted for the delete of a by 0.4 (line 8), which the author of 1.3 had not seen; or an earlier insert was not adjusted for a delete that its author had not seen." + stop(13, "replica 0 applies 1.3")),
+     "names the element that was deleted.|If the editor sends positions, the position of 1.3 was perhaps not adjusted for the delete of a by 0.4 (line 8), which the author of 1.3 had not seen; or an insert that came there before was not adjusted for a delete that its author had not seen." + stop(13, "replica 0 applies 1.3")),
     ("a delete that takes what is deleted later", 2, "0 ins a 0 : a|0 ins b 1 : a b|1 recv 0 2|1 read : a b|1 del a : b|0 ins c 0 : c a b|0 recv 1 2|"
      "0 read : a b|0 del c : a b",
      "It looks as if 1.2 (line 7), applied at replica 0, deleted c instead of a: look at how a replica that applies a delete finds the element, and at whether the recorder "
      "names the element that was deleted.|If the editor sends positions, the position of 1.2 was perhaps not adjusted for the insert of c by 0.3 (line 8), which the author of 1.2 had not seen." + stop(9, "replica 0 applies 1.2")),
     ("an insert that another one at its place has shifted", 2, "0 ins b 0 : b|0 ins c 0 : c b|1 ins a 0 : a|1 recv 0 1|1 read : a b|1 recv 0 2|"
      "1 read : a b c",
-     "Look at where a replica places an incoming insert: replica 0 had [b] already when it inserted [c] (0.2, line 4), and so fixed the order "
-     "of the two; yet two responses differ about it. Often the clock that decides between inserts does not advance when changes arrive, or the neighbour is not found; or elements are stored in runs, and a run is split at another place than behind the neighbour (deleted elements count too). a was inserted at the same "
-     "place as c, and neither author had seen the other's insert. Look also at which of them comes first." + stop(8, "replica 1 applies 0.2", 6)),
+     "Look at where a replica places an incoming insert: replica 0 had [b] already when it inserted [c] (0.2, line 4), and so settled the order "
+     "of the two; yet two responses differ about it. Often the clock that decides between inserts does not advance when changes arrive, or the neighbour is not found; or elements are stored in runs, and a run is split at another place than behind the neighbour (deleted elements count too). At the place of c also "
+     "a was inserted, neither knowing of the other. Look also at which of them comes first." + stop(8, "replica 1 applies 0.2", 6)),
     ("a receipt that comes before the change is applied", 2, "0 ins a 0 : a|1 recv 0 1|1 read : a|0 ins b 1 : a b|0 del a : b|1 recv 0 3|1 read : a",
      "contents 1.2: this response lacks one element that replica 1 should have had by then, and has one element that should not be there.||"
      "Where to look|"
@@ -421,7 +421,7 @@ WORDS = [
      "go." + stop(7, "replica 1 applies 0.2")),
     ("a wrong response before the one that the program names", 2, "1 ins a 0 : a|1 read :|0 recv 1 1|0 read : a|0 read :|1 read : a",
      "contents 1.2: this response lacks one element that replica 1 should have had by then. This is what went wrong first, within the first 4 lines. The verdict on "
-     "the whole trace is `contents 0.2`: see the end.||When it went wrong|"
+     "the whole trace is `contents 0.2` (told below).||When it went wrong|"
      "line 4 of the trace, 1.2: replica 1 read the list. Up to line 3 the session is accepted; line 4 leads to `contents 1.2`|"
      "the first 4 lines are enough to show it (`head -4`)||The response|line 4 of the trace, 1.2: replica 1 read the list|answered: (nothing)|"
      "[a] inserted by 1.1 (line 3), an earlier operation of replica 1" + stop(4, "replica 1 reads the list")
@@ -429,7 +429,7 @@ WORDS = [
      "strong and weak fail"),
     ("a delete that meets an insert which did not know it", 2, "0 ins a 0 : a|0 ins b 1 : a b|0 ins c 2 : a b c|1 recv 0 3|1 read : a b c|1 del a : b c|"
      "0 ins d 2 : a b d c|1 recv 0 4|1 read : b c d",
-     "Look at where a replica places an incoming insert: replica 0 had [c] already when it inserted [d] (0.4, line 9), and so fixed the "
+     "Look at where a replica places an incoming insert: replica 0 had [c] already when it inserted [d] (0.4, line 9), and so settled the "
      "order of the two; yet two responses differ about it. Often the clock that decides between inserts does not advance when changes arrive, or the neighbour is not found; or elements are stored in runs, and a run is split at another place than behind the neighbour (deleted elements count too).|If the editor "
      "sends positions, the position of d was perhaps not adjusted for the delete of a by 1.2 (line 8), which replica 1 knew and the author of d did not." + stop(10, "replica 1 applies 0.4", 6)),
     ("a delete that becomes nothing beside an insert that its author did not know", 2, "0 ins a 0 : a|1 recv 0 1|1 read : a|0 del a :|"
@@ -439,7 +439,7 @@ WORDS = [
      "had not seen."),
     ("a delete of one of two that were inserted at one place", 2, "0 ins a 0 : a|0 del a :|1 ins b 0 : b|1 recv 0 1|1 read : a b|1 recv 0 2|1 read : a",
      "It looks as if 0.2 (line 4), applied at replica 1, deleted b instead of a: look at how a replica that applies a delete finds the element, and at whether the recorder "
-     "names the element that was deleted.|If the editor sends positions, the position of 0.2 was perhaps not adjusted for the insert of b by 1.1 (line 5), which the author of 0.2 had not seen. b was inserted at the same place as a, and neither author had seen the other's insert. Look also at which of them comes first."),
+     "names the element that was deleted.|If the editor sends positions, the position of 0.2 was perhaps not adjusted for the insert of b by 1.1 (line 5), which the author of 0.2 had not seen. At the place of a also b was inserted, neither knowing of the other. Look also at which of them comes first."),
     ("doubled", 2, "0 ins a 0 : a|0 ins b 1 : a b|1 ins b 0 : b",
      "doubled: 0.2 and 1.1 insert the same name, b. An element is known by its name, so nothing else was judged.|"
      "line 4 of the trace, 0.2: replica 0 inserted b at position 1|line 5, 1.1: replica 1 inserted b at position 0||"
@@ -591,7 +591,7 @@ PLANTED = {
     "clock": (300, 20, ["decides by numbers (a clock, ids) which of two inserts", "the clock that decides between inserts"]),
     "mapping": (150, 40, ["perhaps not adjusted for the delete", "perhaps not adjusted for the insert"]),
     "unmoved": (80, 40, [" was perhaps not adjusted for", "not adjusted for an insert", "not adjusted for inserts"]),
-    "behind": (80, 40, ["order of concurrent inserts", "neither author had seen the other's insert"]),
+    "behind": (80, 40, ["order of concurrent inserts", "neither knowing of the other"]),
     "twice": (500, 10, ["was already deleted there, by"]),
     "overtaking": (100, 50, ["overtook it in line"]),
     "none": (60, 0, []),
@@ -955,7 +955,7 @@ def beginning(tally: Tally, program: str, text: str, report: dict, said: str) ->
     titles = [line for line in front.splitlines() if line.startswith("What the")]
     tally.check("refused: under which title", titles == ["What these responses show: a circle, which no order allows"], said)
     others = " too, for other responses" if behind["k"] == report["k"] else ""
-    ending = f" This is what went wrong first, within the first {last} lines. The verdict on the whole trace is `refused {report['k']}`{others}: see the end."
+    ending = f" This is what went wrong first, within the first {last} lines. The verdict on the whole trace is `refused {report['k']}`{others} (told below)."
     tally.check("refused: the whole trace's number", said.splitlines()[0].endswith(ending) == bool(wanted[1:])
                 and said.startswith(f"refused {behind['k']}: "), said)
     return "".join(lines[:last]), behind
@@ -983,7 +983,7 @@ def sooner(tally: Tally, program: str, text: str, report: dict, said: str) -> tu
     tally.check("a fault: when it went wrong", is_right if wanted else not told, f"{text}{report}\n{said}")
     headline, is_other = said.splitlines()[0], of_whole != of_first
     tally.check("a fault: its headline", headline.startswith(of_first.partition(" ")[0]) and headline.endswith(
-        f" This is what went wrong first, within the first {count} lines. The verdict on the whole trace is `{of_whole}`: see the end.") == is_other
+        f" This is what went wrong first, within the first {count} lines. The verdict on the whole trace is `{of_whole}` (told below).") == is_other
                 and ("the whole trace" in headline) == is_other, f"{text}{report}\n{said}")
     tally.check("a fault: what the whole trace names", bool(paragraph(said, "What the verdict on the whole trace is about")) == is_other,
                 f"{text}{report}\n{said}")
@@ -1150,7 +1150,7 @@ def places(tally: Tally, program: str, folder: str) -> None:
     for name, wanted in FOR_TWO.items():
         got = explain(program, ["--language", name, "-"], text_of(2, "0 ins a 0 : a|0 ins b 1 : a b|1 recv 0 1|1 recv 0 2|1 read : a").encode()).out.decode()
         tally.check(f"a debugger: {name}, receipts that stand together", paragraph(got, "In a debugger").endswith(
-            f"(the recording has 5 lines then, or 4 if the 2 `recv` lines up to there were written in one go): {wanted}"), got)
+            f"(the recording has 5 lines then; or 4, if lines 5 to 6 were written in one go): {wanted}"), got)
     undelivered(tally, program, folder)
     path.write_text(text_of(2, PLACED))
     for beside, wanted in NOTES:

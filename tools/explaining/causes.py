@@ -46,11 +46,10 @@ WRONG_DELETE = ("It looks as if {delete}, applied at replica {replica}, deleted 
                 "delete finds the element, and at whether the recorder names the element that was deleted.")
 MOVED_DELETE = ("If the editor sends positions, the position of {delete} was perhaps not adjusted for {changes}, which the author of {delete} had "
                 "not seen{back}.{tie}")
-MOVED_BEFORE = "; or an earlier insert was not adjusted for a delete that its author had not seen"
-PUT_AT_ONCE = (" {others} {were} inserted at the same place as {element}, and neither author had seen the other's insert. Look also at which "
-               "of them comes first.")
+MOVED_BEFORE = "; or an insert that came there before was not adjusted for a delete that its author had not seen"
+PUT_AT_ONCE = " At the place of {element} also {others} {were} inserted, neither knowing of the other. Look also at which of them comes first."
 TOO_MUCH = ("It looks as if {deletes}, applied at replica {replica}, deleted {missing} too: {missing} stood there in {before}, and no change that has come since "
-            "deletes {it}. Look at which elements a replica deletes there: from where on, and how many.")
+            "deletes {it}. Look at where the replica begins to delete there, and at how many elements it deletes.")
 SECOND_DELETE = ("It looks as if {again}, applied at replica {replica}, deleted {missing} instead of {element}: look at how a replica that applies a delete "
                  "finds the element. {element} was already deleted there, by {first}, so look also at what the editor does with a delete whose element is gone.")
 CAUSAL = ("Apply an operation only after everything that its author had seen, or send all of that together with it. If the editor itself holds operations "
@@ -68,16 +67,16 @@ IDENTIFIERS = ("If the list is sorted by position identifiers, print those of {n
 SORTED = ("If the list is sorted by position identifiers, look at those of {names}: are {two} equal, does one differ between "
           "replicas, or are numbers compared as text?")
 REORDERED = ("Replica {replica} itself changed the order of elements that it had shown: {one} before {two} in {before}, {two} before {one} in {after}. Between the two "
-             "it {did}. Look at what decides which of {two} and {one} comes first: that must be fixed once both are inserted, and may not hang on what is inserted, "
-             "deleted or received later.")
+             "it {did}. Look at what decides which of {two} and {one} comes first: once both are inserted, it must never change, whatever is inserted, deleted "
+             "or received later.")
 MAPPING = ("Look at how the position that a user sees is mapped to a place in the editor's own list{deleted}; and at whether the "
            "recorder writes the position that was asked for.")
-NUMBERS = ("If the editor decides by numbers (a clock, ids) which of two inserts at one place comes first, look at these: {element} stands behind "
+NUMBERS = ("If the editor decides by numbers (a clock, ids) which of two inserts at one place comes first, look at theirs: {element} stands behind "
            "{passed}, which replica {replica} had already. The number that {element} has must be greater than {theirs}; perhaps it is not. Usual causes: "
-           "the clock does not advance when changes arrive; replicas are compared before clocks; ids are compared as text, so 10 comes before 9.")
+           "the clock does not advance when changes arrive; the replica's number is compared before the clock; ids are compared as text, so 10 comes before 9.")
 BESIDE_DELETED = ("If inserts find their place by a neighbour, look at inserts beside deleted elements: the lines above name {which}. If replicas throw "
-                  "deleted elements away, nothing says then where the insert belongs; if they keep them, the search for its place must pass them as it passes "
-                  "those that are shown.")
+                  "deleted elements away, nothing says then where the insert belongs; if they keep them, the search for its place must treat them like "
+                  "elements that are shown.")
 SEVERAL_DELETED = ("Look at positions beside deleted elements: any {fewer} of {named} fit together, all {k} don't; perhaps an insert lost its place "
                    "because its neighbour was deleted elsewhere. The lines above say which elements each response no longer has.")
 SEVERAL_APART = ("Look at how a replica orders elements when it has only some of them: any {fewer} of {named} fit together, all {k} don't. An "
@@ -86,12 +85,12 @@ SEVERAL_APART = ("Look at how a replica orders elements when it has only some of
 WEAK_ALONE_HOLDS = ("An editor whose server orders all changes, as Jupiter's does, promises only the weak list specification, and up to line {line} "
                     "that holds. To ask for that only, use --weak.")
 BETWEEN = ("{operation} shows [{other}] between [{behind}] and [{element}], which was put directly behind [{behind}]; the author of [{other}] knew neither. If inserts "
-           "find their place by a neighbour, look at how [{other}] found its place there: what is moved past [{behind}] must also be moved past all that was put behind [{behind}].")
+           "find their place by a neighbour, look at how [{other}] found its place there: if the search skips [{behind}], it must also skip all that was put behind [{behind}].")
 BEHIND_UNKNOWN = ("[{element}] was put directly behind [{behind}]; the author of [{other}] did not know [{behind}]. If inserts find their place by a neighbour, look at how "
-                  "[{other}] found its place: what is moved past [{behind}] must also be moved past all that was put behind [{behind}].")
+                  "[{other}] found its place: if the search skips [{behind}], it must also skip all that was put behind [{behind}].")
 CONCURRENT = ("Look at the order of concurrent inserts: {first} and {then} were inserted{place} without knowing of each other, and were shown "
               "in two different orders. Use a rule that gives the same order everywhere (such as the replicas' numbers), and not the order of "
-              "arrival or a number set on arrival; nor may a shortcut pass it by.")
+              "arrival or a number set on arrival. No fast path in the code may skip that rule.")
 POSITIONS = ("Look at how a position is adjusted where a change arrives: the position of {element} was perhaps not adjusted for {changes}, which "
              "replica {replica} knew and the author of {element} did not{back}. Or look at the order of concurrent inserts: {first} and {then} were inserted without knowing of each "
              "other, and were shown in two different orders. Use a rule that gives the same order everywhere (such as the replicas' numbers).")
@@ -99,10 +98,10 @@ EITHER = ("Look at the order of concurrent inserts: {first} and {then} were inse
           "different orders. Either the rule that orders them is not the same everywhere; or the position of {element} was not adjusted for {changes}, "
           "which replica {replica} knew and the author of {element} did not{back}.")
 SEEN = ("Look at where a replica places an incoming insert: replica {author} had [{old}] already when it inserted [{new}] ({later}, line {line}), and so "
-        "fixed the order of the two; yet two responses differ about it.{numbers}")
+        "settled the order of the two; yet two responses differ about it.{numbers}")
 MOVED_INSERT = ("If the editor sends positions, the position of {element} was perhaps not adjusted for {changes}, which replica {replica} "
                 "knew and the author of {element} did not{back}.")
-MOVED_BACK = {True: "; or the position of the delete was not adjusted for an insert that its author had not seen",
+MOVED_BACK = {True: "; or the position of the delete was not adjusted for an insert that the author of the delete had not seen",
               False: "; or the positions of the deletes were not adjusted for inserts that their authors had not seen"}
 DOUBLED = ("Look at the recorder first: each inserted element needs a name of its own, for ever. Two equal letters need two names. Each pasted "
            "element needs a new name; so does an element that comes back by undo, if it comes back as a new one.")

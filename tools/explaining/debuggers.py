@@ -93,7 +93,7 @@ def statement(recording: Recording, entry: Operation | Receipt, language: str) -
     first = first_together(recording, entry)
     then, asked = f"the recording has {entry.line - 1} lines then", words.format(entry.line - 1)
     if first < entry.line:
-        then += f", or {first - 1} if the {entry.line - first + 1} `recv` lines up to there were written in one go"
+        then += f"; or {first - 1}, if lines {first} to {entry.line} were written in one go"
         asked = FOR_TWO[language].format(first - 1, entry.line - 1)
     return f" In {name}, put this {READS if is_read else BEGINS} ({then}): {asked}"
 

@@ -45,7 +45,7 @@ def explanation(evidence: Evidence, told: Evidence, language: str = debuggers.US
     whole = whole_trace(evidence, told)
     if whole:
         others = " too, for other responses" if verdict_of(evidence.report) == verdict_of(told.report) else ""
-        headline += f" This is what went wrong first, within the first {told.last_line} lines. The verdict on the whole trace is {verdict_of(evidence.report)}{others}: see the end."
+        headline += f" This is what went wrong first, within the first {told.last_line} lines. The verdict on the whole trace is {verdict_of(evidence.report)}{others} (told below)."
     if weak and is_weak_alone(evidence.report):
         headline = f"{WEAK_ALONE}: this passes, since only the weak list specification is asked for. Why the strong one fails: {headline}"
     return Explanation(headline, [*when_it_went_wrong(evidence, told, weak), *without_receipts(told), *sections, *where,
@@ -385,9 +385,9 @@ def arrived(recording: Recording, seen: Operation, operation: Operation) -> str:
     way = recording.way(seen, operation)
     if not way:
         return f"an earlier operation of replica {operation.replica}"
-    hops = [f"{how_arrived(receipt, seen)} in line {receipt.line} ({receipt.text})"
-            + ", a line that `delivered` wrote" * recording.is_delivered(receipt.line) for receipt in way]
-    return "which " + ", and from there ".join(hops)
+    hops = [f"{how_arrived(receipt, seen)}{', which had it,' * (place > 0)} in line {receipt.line} ({receipt.text})"
+            + ", a line that `delivered` wrote" * recording.is_delivered(receipt.line) for place, receipt in enumerate(way)]
+    return "which " + ", and ".join(hops)
 
 
 def how_arrived(receipt: Receipt, seen: Operation) -> str:
@@ -403,7 +403,7 @@ def not_arrived(recording: Recording, seen: Operation, operation: Operation) -> 
     late = recording.arrival(seen, operation.replica)
     if late is None:
         return f"and replica {operation.replica} has no receipt of it"
-    return f"and replica {operation.replica}'s first receipt of it is line {late.line} ({late.text}), after this response"
+    return f"and replica {operation.replica}'s first receipt of {seen.name} is line {late.line} ({late.text}), after this response"
 
 
 def position(evidence: Evidence) -> tuple:
@@ -432,7 +432,7 @@ def list_before(evidence: Evidence, operation: Operation) -> list:
         return []
     came = [receipt.seen.name for receipt in evidence.recording.receipts[operation.replica] if shown.n <= receipt.before < operation.n]
     told = f", and then it received {listed(came, MOST_ARRIVED)}" if came else ""
-    return [f"before: {marked(shown.response, {operation.element, *evidence.elements})} by {at(shown)}{told}"]
+    return [f"before: {marked(shown.response, {operation.element, *evidence.elements})}, answered by {at(shown)}{told}"]
 
 
 def answer(evidence: Evidence, operation: Operation) -> str:
