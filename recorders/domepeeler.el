@@ -482,7 +482,6 @@ and takes time linear in the text."
               (domepeeler--different recording warned)
               (domepeeler--unheard recording)
               (domepeeler--unshown recording warned)
-              (domepeeler--told-alone warned)
               (domepeeler--without-operation recording warned)
               (domepeeler--some (domepeeler--warned-of-nothing warned) "delete" "of elements that no line inserts")
               (domepeeler--some (domepeeler--warned-past-end warned) "insert" "past the end of a list")))))
@@ -860,8 +859,6 @@ A letter stands first, as `2-0' would look like an operation's name."
 
 (cl-defstruct (domepeeler--entries (:copier nil))
   (lines (make-hash-table))  ; by place from 1: the lines of its changes
-  (elements (make-hash-table))  ; by place from 1: their elements, each with whether it is inserted
-  unshown                    ; changes that `delivered' alone brought and that no list shows, as (LINE AUTHOR N), the last call's first
   receiving                  ; whether it has receipts
   since                      ; those since its last list, the last one first: author, number and line
   viewed                     ; whether a view follows these
@@ -879,40 +876,26 @@ A letter stands first, as `2-0' would look like an operation's name."
          (operations (make-vector (length entries) 0))
          (inserted (make-hash-table :test #'equal))
          (line domepeeler--head)
-         (last-calls (seq-take (domepeeler-recording-deliveries recording) domepeeler--delivered))
-         (ranges (reverse last-calls))
-         (known-from (if (= (length last-calls) domepeeler--delivered) (caar ranges) 0))
-         writes-receipts deletes past-end)
+         deletes past-end)
     (dolist (entry (nthcdr domepeeler--head (reverse (domepeeler-recording-lines recording))))
       (cl-incf line)
       (pcase-let* ((colon (string-match-p ":" entry))
                    (`(,first ,kind ,third ,fourth) (seq-take (split-string (substring entry 0 colon) " " t) 4))
                    (replica (string-to-number first))
-                   (own (aref entries replica))
-                   (from nil))
-        (while (and ranges (< (cdar ranges) line))
-          (pop ranges))
-        (when (and ranges (<= (caar ranges) line))
-          (setq from (caar ranges)))
+                   (own (aref entries replica)))
         (if (string= kind "recv")
             (progn
-              (unless (or from (< line known-from))
-                (setq writes-receipts t))
               (setf (domepeeler--entries-receiving own) t
                     (domepeeler--entries-viewed own) nil)
               (push (list (string-to-number third) (string-to-number fourth) line) (domepeeler--entries-since own)))
           (let* ((names (substring entry (1+ colon)))
                  (named (format "line %d, %d.%d: replica %d" line replica (cl-incf (aref operations replica)) replica)))
             (setf (domepeeler--entries-viewed own) (string= kind "view"))
-            (when (and from writes-receipts (string= kind "read"))
-              (domepeeler--note-unshown recording entries replica (aref operations replica) from names))
             (unless (string= kind "view")
               (setf (domepeeler--entries-since own) nil
                     (domepeeler--entries-last own) (aref operations replica)
                     (domepeeler--entries-shown own) names))
             (when (member kind '("ins" "del"))
-              (puthash (1+ (hash-table-count (domepeeler--entries-elements own))) (cons third (string= kind "ins"))
-                       (domepeeler--entries-elements own))
               (puthash (1+ (hash-table-count (domepeeler--entries-lines own))) line (domepeeler--entries-lines own)))
             (when (string= kind "del")
               (push (cons third named) deletes))
@@ -1032,51 +1015,6 @@ Each is told with its line."
                     (setq has (cl-map 'vector #'max has past))
                     new)
              collect (format "%d.%d (line %d)" author n line))))
-
-(defun domepeeler--note-unshown (recording entries replica n from names)
-  "Note what a call of `domepeeler-delivered' brings to REPLICA unseen.
-Such are inserts of elements that are deleted by then, and these deletes:
-NAMES, which the replica's operation N shows behind the receipts from line
-FROM on, can't show them.  ENTRIES are those of each replica so far."
-  (let* ((own (aref entries replica))
-         (replicas (domepeeler-recording-replicas recording))
-         (has (copy-sequence (gethash (domepeeler--entries-last own) (domepeeler--replica-pasts (aref replicas replica))
-                                      (make-vector (length replicas) 0))))
-         (now (gethash n (domepeeler--replica-pasts (aref replicas replica))))
-         (gone (make-hash-table :test #'equal))
-         brought)
-    (cl-loop for (author m line) in (domepeeler--entries-since own)
-             when (< line from)
-             do (let ((past (copy-sequence (gethash m (domepeeler--replica-pasts (aref replicas author))))))
-                  (aset past author m)
-                  (setq has (cl-map 'vector #'max has past))))
-    (cl-loop for of across replicas
-             for author from 0
-             when (/= author replica)
-             do (cl-loop for place from (1+ (domepeeler--up-to of (aref has author))) to (domepeeler--up-to of (aref now author))
-                         for (element . inserted) = (gethash place (domepeeler--entries-elements (aref entries author)))
-                         do (push (list (gethash place (domepeeler--entries-lines (aref entries author))) author
-                                        (gethash place (domepeeler--replica-changes of)) element)
-                                  brought)
-                         (when inserted
-                           (puthash element t gone))))
-    (dolist (name (split-string names " " t))
-      (remhash name gone))
-    (dolist (one (sort brought (lambda (one two) (< (car one) (car two)))))
-      (when (gethash (nth 3 one) gone)
-        (push (seq-take one 3) (domepeeler--entries-unshown own))))))
-
-(defun domepeeler--told-alone (warned)
-  "Of replicas to which `delivered' brings changes that no list shows.
-It is told where the code writes receipts itself."
-  (cl-loop for entries across (domepeeler--warned-entries warned)
-           for replica from 0
-           for changes = (mapcar (pcase-lambda (`(,line ,author ,n)) (format "%d.%d (line %d)" author n line))
-                                 (reverse (domepeeler--entries-unshown entries)))
-           when changes
-           collect (format "only `delivered` says that %s arrived at replica %d: %s, %s. %s" (domepeeler--listed changes) replica
-                           "no receipt before does, and no list can show it" "since what was inserted was deleted again"
-                           "Unless their receipts are left to `delivered` on purpose, they were lost or are held back")))
 
 (defun domepeeler--some (told what which)
   "The first that are TOLD, and how many more there are of WHAT, WHICH of them."

@@ -1131,23 +1131,22 @@ static inline int domepeeler_compare(const void *one, const void *two) {
     return order ? order : (first->length > second->length) - (first->length < second->length);
 }
 
-/* A receipt of author.n, or the change n of the name by the author, in this line. */
+/* A receipt of author.n, or the delete n of the name by the author, in this line. */
 struct domepeeler_event {
     int author;
     unsigned n;
     size_t line;
     struct domepeeler_span name;
-    int is_insert;
 };
 
-/* What the entries of one replica in the text say: its operations; its changes, and their lines; whether it has receipts; the names of the
- * list that it showed last, which a view is not, or NULL, and the number of that operation; which receipts came since, and whether a view
- * follows them; and how many changes only domepeeler_delivered() brought and no list shows, with the first of them. */
+/* What the entries of one replica in the text say: its operations; the lines of its changes; whether it has receipts; the names of the list
+ * that it showed last, which a view is not, or NULL, and the number of that operation; which receipts came since, and whether a view
+ * follows them. */
 struct domepeeler_entries {
     unsigned operations, changed, since, last;
     int is_receiving, is_viewed;
-    size_t *lines, unshown;
-    struct domepeeler_event *arrived, *changes, first_unshown[DOMEPEELER_CHANGES];
+    size_t *lines;
+    struct domepeeler_event *arrived;
     const char *shown;
 };
 
@@ -1157,12 +1156,9 @@ struct domepeeler_warned {
     struct domepeeler_words *said;
     struct domepeeler_entries of[DOMEPEELER_REPLICAS];
     struct domepeeler_span *inserted, *shown; /* shown: the names of the lists that replicas showed last, one list behind the other */
-    struct domepeeler_span *gone;             /* elements that no list shows, of the call of domepeeler_delivered() that is read */
     struct domepeeler_event *deletes;
     size_t *lines, inserts, deleted, ends;
-    size_t delivery, known_from; /* the call of domepeeler_delivered() that comes next, and the line from which on these are known */
-    int writes_receipts;         /* whether the code writes receipts itself */
-    struct domepeeler_event *arrived, *changes;
+    struct domepeeler_event *arrived;
     struct domepeeler_words past_end; /* inserts past the end of a list, of which there are so many ends */
 };
 
@@ -1191,74 +1187,14 @@ static inline void domepeeler_say_changes(const struct domepeeler *d, struct dom
     if (count > told) domepeeler_say(said, " and %zu more", count - told);
 }
 
-/* Sorts the names behind the colon of a response, each once, into the room. Answers how many they are. */
-static inline size_t domepeeler_set(const char *shown, struct domepeeler_span *names) {
-    size_t count = 0, once = 0;
-    for (; *shown == ' '; shown += names[count++].length) {
-        names[count].at = ++shown;
-        names[count].length = strcspn(shown, " \n");
-    }
-    qsort(names, count, sizeof *names, domepeeler_compare);
-    for (size_t i = 0; i < count; i++)
-        if (!once || domepeeler_compare(&names[once - 1], &names[i])) names[once++] = names[i];
-    return once;
-}
-
-/* The first line of the call of domepeeler_delivered() that wrote this line, or 0. It is asked of lines in rising order. */
-static inline size_t domepeeler_delivery_of(struct domepeeler_warned *w, size_t line) {
-    while (w->delivery < w->d->delivered && w->d->deliveries[w->delivery][1] < line) w->delivery++;
-    size_t first = w->delivery < w->d->delivered ? w->d->deliveries[w->delivery][0] : 0;
-    return first <= line ? first : 0;
-}
-
-/* Notes the changes that a call of domepeeler_delivered(), whose lines begin there, brings to a replica and that its list behind it, shown by
- * its operation n, can't show: inserts of elements that are deleted by then, and these deletes. */
-static inline void domepeeler_note_unshown(struct domepeeler_warned *w, int replica, unsigned n, size_t from, const char *shown) {
-    struct domepeeler_entries *own = &w->of[replica];
-    const struct domepeeler_replica *of = w->d->of;
-    unsigned has[DOMEPEELER_REPLICAS] = {0}, next[DOMEPEELER_REPLICAS], end[DOMEPEELER_REPLICAS];
-    size_t gone = 0, names = domepeeler_set(shown, w->shown);
-    if (own->last) memcpy(has, of[replica].pasts[own->last - 1], sizeof has);
-    for (unsigned k = 0; k < own->since && own->arrived[k].line < from; k++) {
-        struct domepeeler_event event = own->arrived[k];
-        for (int other = 0; other < w->d->replicas; other++) {
-            unsigned seen = other == event.author ? event.n : of[event.author].pasts[event.n - 1][other];
-            if (seen > has[other]) has[other] = seen;
-        }
-    }
-    for (int author = 0; author < w->d->replicas; author++) {
-        next[author] = author == replica ? 0 : domepeeler_up_to(&of[author], has[author]);
-        end[author] = author == replica ? 0 : domepeeler_up_to(&of[author], of[replica].pasts[n - 1][author]);
-        for (unsigned i = next[author]; i < end[author]; i++) {
-            const struct domepeeler_event *one = &w->of[author].changes[i];
-            if (one->is_insert && !bsearch(&one->name, w->shown, names, sizeof *w->shown, domepeeler_compare)) w->gone[gone++] = one->name;
-        }
-    }
-    qsort(w->gone, gone, sizeof *w->gone, domepeeler_compare);
-    while (gone) { /* in the order of lines */
-        int least = -1;
-        for (int author = 0; author < w->d->replicas; author++)
-            if (next[author] < end[author] &&
-                (least < 0 || w->of[author].lines[next[author]] < w->of[least].lines[next[least]])) least = author;
-        if (least < 0) return;
-        struct domepeeler_event one = w->of[least].changes[next[least]++];
-        if (!bsearch(&one.name, w->gone, gone, sizeof *w->gone, domepeeler_compare)) continue;
-        if (own->unshown < DOMEPEELER_CHANGES) own->first_unshown[own->unshown] = one;
-        own->unshown++;
-    }
-}
-
 /* Reads an operation's entry. */
 static inline void domepeeler_read_operation(struct domepeeler_warned *w, int replica, const char *kind, size_t line) {
     struct domepeeler_entries *own = &w->of[replica];
     const char *name = strchr(kind, ' ') + 1, *colon = strchr(kind, ':'), *end = strchr(kind, '\n');
-    struct domepeeler_event event = {replica, ++own->operations, line, {name, strcspn(name, " ")}, *kind == 'i'};
-    size_t from = domepeeler_delivery_of(w, line);
-    if (from && w->writes_receipts && *kind == 'r') domepeeler_note_unshown(w, replica, event.n, from, colon + 1);
+    struct domepeeler_event event = {replica, ++own->operations, line, {name, strcspn(name, " ")}};
     own->is_viewed = *kind == 'v';
     if (!own->is_viewed) own->shown = colon + 1, own->since = 0, own->last = own->operations;
     if (*kind != 'i' && *kind != 'd') return; /* ins, del */
-    own->changes[own->changed] = event;
     own->lines[own->changed++] = line;
     if (*kind == 'd') {
         w->deletes[w->deleted++] = event;
@@ -1284,8 +1220,7 @@ static inline void domepeeler_read_entries(struct domepeeler_warned *w) {
             continue;
         }
         int author = (int)strtol(kind + 4, &kind, 10);
-        struct domepeeler_event event = {author, (unsigned)strtoul(kind, NULL, 10), line, {NULL, 0}, 0};
-        if (!domepeeler_delivery_of(w, line) && line >= w->known_from) w->writes_receipts = 1;
+        struct domepeeler_event event = {author, (unsigned)strtoul(kind, NULL, 10), line, {NULL, 0}};
         own->is_receiving = 1;
         own->is_viewed = 0;
         own->arrived[own->since++] = event;
@@ -1346,6 +1281,19 @@ static inline size_t domepeeler_say_lacked(const struct domepeeler_warned *w, st
             if (like[other] == i) domepeeler_say(never, "%s%d", domepeeler_joint(said++, (size_t)alike[i]), other);
     }
     return all;
+}
+
+/* Sorts the names behind the colon of a response, each once, into the room. Answers how many they are. */
+static inline size_t domepeeler_set(const char *shown, struct domepeeler_span *names) {
+    size_t count = 0, once = 0;
+    for (; *shown == ' '; shown += names[count++].length) {
+        names[count].at = ++shown;
+        names[count].length = strcspn(shown, " \n");
+    }
+    qsort(names, count, sizeof *names, domepeeler_compare);
+    for (size_t i = 0; i < count; i++)
+        if (!once || domepeeler_compare(&names[once - 1], &names[i])) names[once++] = names[i];
+    return once;
 }
 
 /* Puts into `like` for each replica the first one whose last list has the same names, or -1 where it showed none. Answers how many lists
@@ -1452,17 +1400,6 @@ static inline void domepeeler_say_unshown(struct domepeeler_warned *w) {
     }
 }
 
-/* Of replicas to which domepeeler_delivered() brings changes that no list shows, where the code writes receipts itself. */
-static inline void domepeeler_say_told_alone(const struct domepeeler_warned *w) {
-    for (int i = 0; i < w->d->replicas; i++) {
-        if (!w->of[i].unshown) continue;
-        domepeeler_say(w->said, "only `delivered` says that ");
-        domepeeler_say_changes(w->d, w->said, w->of[i].first_unshown, w->of[i].unshown);
-        domepeeler_say(w->said, " arrived at replica %d: no receipt before does, and no list can show it, since what was inserted was deleted "
-                                "again. Unless their receipts are left to `delivered` on purpose, they were lost or are held back\n", i);
-    }
-}
-
 static inline void domepeeler_say_without_operation(const struct domepeeler_warned *w) {
     for (int i = 0; i < w->d->replicas; i++)
         if (!w->d->of[i].operations)
@@ -1498,14 +1435,11 @@ static inline int domepeeler_warned_room(struct domepeeler_warned *w, size_t ent
     w->inserted = (struct domepeeler_span *)malloc((entries + 1) * sizeof *w->inserted);
     w->shown = (struct domepeeler_span *)malloc((names + 1) * sizeof *w->shown);
     w->deletes = (struct domepeeler_event *)malloc((entries + 1) * sizeof *w->deletes);
-    w->gone = (struct domepeeler_span *)malloc((entries + 1) * sizeof *w->gone);
     w->arrived = (struct domepeeler_event *)malloc((entries + 1) * sizeof *w->arrived);
-    w->changes = (struct domepeeler_event *)malloc((entries + 1) * sizeof *w->changes);
     w->lines = (size_t *)malloc((entries + 1) * sizeof *w->lines);
-    if (!w->inserted || !w->shown || !w->deletes || !w->gone || !w->arrived || !w->changes || !w->lines) return 0;
+    if (!w->inserted || !w->shown || !w->deletes || !w->arrived || !w->lines) return 0;
     for (int i = 0; i < w->d->replicas; i++) {
         w->of[i].lines = w->lines + start;
-        w->of[i].changes = w->changes + start;
         w->of[i].arrived = w->arrived + start;
         start += w->d->of[i].entries;
     }
@@ -1526,14 +1460,11 @@ static inline char *domepeeler_warnings_now(struct domepeeler *d) {
     memset(&w, 0, sizeof w);
     w.d = d;
     w.said = &said;
-    w.delivery = d->delivered > DOMEPEELER_DELIVERED ? d->delivered - DOMEPEELER_DELIVERED : 0;
-    w.known_from = d->delivered >= DOMEPEELER_DELIVERED ? d->deliveries[w.delivery][0] : 0;
     if (domepeeler_warned_room(&w, entries)) {
         domepeeler_read_entries(&w);
         domepeeler_say_different(&w);
         domepeeler_say_unheard(&w);
         domepeeler_say_unshown(&w);
-        domepeeler_say_told_alone(&w);
         domepeeler_say_without_operation(&w);
         domepeeler_say_of_nothing(&w);
         if (w.past_end.text) domepeeler_say(&said, "%s", w.past_end.text);
@@ -1545,9 +1476,7 @@ static inline char *domepeeler_warnings_now(struct domepeeler *d) {
     free(w.inserted);
     free(w.shown);
     free(w.deletes);
-    free(w.gone);
     free(w.arrived);
-    free(w.changes);
     free(w.lines);
     free(w.past_end.text);
     return domepeeler_said(d, &said);

@@ -316,7 +316,7 @@ export class Recording {
    * recorded. A promise of a list. */
   async warnings() {
     if (this.#only !== null) throw new Refused(ONE_LOG)
-    const found = hidden(this.#lines, this.#delivered), withNearest = this.#nearest(await modules())
+    const found = hidden(this.#lines), withNearest = this.#nearest(await modules())
     return [...this.#refusals(), ...found.map(withNearest)]
   }
 
@@ -858,29 +858,21 @@ function upTo(numbers, most) {
   return low
 }
 
-// What an accepted trace with these lines may hide, where calls of `delivered` wrote these ranges; tools/explaining/warnings.py says the same
-// of a file. Of many calls the last are told of alone, and what stands before these may be of earlier ones.
-function hidden(lines, delivered) {
+// What an accepted trace with these lines may hide; tools/explaining/warnings.py says the same of a file.
+function hidden(lines) {
   if (lines.length === HEAD_LINES) return ["nothing was recorded: the trace has no entry, so the verdict says nothing of an editor"]
   const count = Number(lines[1].split(" ")[1])
   // Of each replica: how many operations of each one it has, now and at each operation of its own; its changes, as the numbers of these
-  // operations, their lines, and their elements with whether they are inserted; the last list that it showed, which a view is not; what it
-  // had then, the receipts since, and whether a view follows these; what it had before a `delivered` that is under way, and the changes that
-  // only `delivered` brought and that no list shows.
-  const end = () => ({ has: Array(count).fill(0), pasts: [], changes: [], lines: [], elements: [], receipts: 0, atLast: [], since: [],
-    isViewed: false, shown: null, deliveredFrom: null, unshown: [] })
+  // operations and their lines; the last list that it showed, which a view is not; what it had then, the receipts since, and whether a view
+  // follows these.
+  const end = () => ({ has: Array(count).fill(0), pasts: [], changes: [], lines: [], receipts: 0, atLast: [], since: [], isViewed: false, shown: null })
   const ends = Array.from({ length: count }, end), inserted = new Set(), deletes = [], pastEnd = []
-  const ranges = delivered.slice(-MOST_DELIVERED), knownFrom = ranges.length === MOST_DELIVERED ? ranges[0][0] : 0
-  let range = 0, writesReceipts = false // the range that is next, and whether the code writes receipts itself
   ends.forEach((one) => { one.atLast = one.has })
   lines.slice(HEAD_LINES).forEach((entry, at) => {
     const line = at + HEAD_LINES + 1, [head, response] = entry.split(":"), words = head.split(" ")
     const replica = Number(words[0]), kind = words[1], one = ends[replica]
     if (kind === "recv") {
       const author = Number(words[2]), n = Number(words[3])
-      while (range < ranges.length && ranges[range][1] < line) range += 1
-      if (range === ranges.length || line < ranges[range][0]) writesReceipts ||= line >= knownFrom
-      else one.deliveredFrom ??= one.has
       one.receipts += 1
       one.has = most(one.has, ends[author].pasts[n - 1])
       one.since.push({ author, n, line })
@@ -892,15 +884,10 @@ function hidden(lines, delivered) {
     one.pasts.push(one.has)
     const names = response.split(" ").slice(1)
     one.isViewed = kind === "view"
-    if (!one.isViewed) {
-      Object.assign(one, { atLast: one.has, since: [], shown: names })
-      if (writesReceipts && one.deliveredFrom) one.unshown.push(...unshownChanges(ends, one))
-      one.deliveredFrom = null
-    }
+    if (!one.isViewed) Object.assign(one, { atLast: one.has, since: [], shown: names })
     if (kind === "ins" || kind === "del") {
       one.changes.push(n)
       one.lines.push(line)
-      one.elements.push({ element: words[2], isInsert: kind === "ins" })
     }
     if (kind === "ins") {
       inserted.add(words[2])
@@ -916,8 +903,8 @@ function hidden(lines, delivered) {
   const ofNothing = deletes.filter(([name]) => !inserted.has(name)).map(([, said]) => said)
   const silent = ends.flatMap(({ pasts, receipts }, replica) => (pasts.length ? [] :
     [`replica ${replica} has ${receipts ? "receipts, but no operation" : "no entry"}: nothing that it showed is judged`]))
-  return [...different(ends), ...unheard(ends), ...unshown(ends), ...toldAlone(ends), ...silent,
-    ...some(ofNothing, "delete", "of elements that no line inserts"), ...some(pastEnd, "insert", "past the end of a list")]
+  return [...different(ends), ...unheard(ends), ...unshown(ends), ...silent, ...some(ofNothing, "delete", "of elements that no line inserts"),
+    ...some(pastEnd, "insert", "past the end of a list")]
 }
 
 function most(one, two) {
@@ -992,29 +979,6 @@ function unshown(ends) {
     if (!pasts.length || !news.length) return []
     return [`replica ${replica} received ${listing(news, news.length)} last, and shows no list${isViewed ? " but a view" : ""} after ` +
       `${news.length === 1 ? "that" : "them"}: let each replica read at the end`]
-  })
-}
-
-// The changes that a call of `delivered` brings to the replica and that its list behind it can't show: inserts of elements that are deleted
-// by then, and these deletes. As lines and operations.
-function unshownChanges(ends, one) {
-  const brought = ends.flatMap((other, author) => {
-    if (other === one) return []
-    const before = upTo(other.changes, one.deliveredFrom[author]), now = upTo(other.changes, one.has[author])
-    return other.changes.slice(before, now).map((n, at) => ({ line: other.lines[before + at], name: `${author}.${n}`, ...other.elements[before + at] }))
-  })
-  const gone = new Set(brought.filter(({ isInsert }) => isInsert).map(({ element }) => element))
-  one.shown.forEach((element) => gone.delete(element))
-  return brought.filter(({ element }) => gone.has(element)).sort((a, b) => a.line - b.line)
-}
-
-// Of replicas to which `delivered` brings changes that no list shows, where the code writes receipts itself.
-function toldAlone(ends) {
-  return ends.flatMap(({ unshown }, replica) => {
-    if (!unshown.length) return []
-    const changes = listing(unshown.map(({ name, line }) => `${name} (line ${line})`), unshown.length)
-    return [`only \`delivered\` says that ${changes} arrived at replica ${replica}: no receipt before does, and no list can show it, since ` +
-      "what was inserted was deleted again. Unless their receipts are left to `delivered` on purpose, they were lost or are held back"]
   })
 }
 

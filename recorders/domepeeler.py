@@ -360,7 +360,7 @@ class Recording:
         was recorded."""
         if self._only is not None:
             raise Refused(ONE_LOG)
-        return self._refusals() + [self._with_nearest(told) for told in _hidden(self._lines, self._delivered)]
+        return self._refusals() + [self._with_nearest(told) for told in _hidden(self._lines)]
 
     @_alone
     def judge(self, program: Optional[Words] = None, weak: bool = False) -> Dict[str, Any]:
@@ -797,40 +797,27 @@ class _End:
         self.pasts: List[Tuple[int, ...]] = []
         self.changes: List[int] = []
         self.lines: List[int] = []
-        self.elements: List[Tuple[str, bool]] = []  # an element with whether it is inserted
         self.receipts = 0
-        self.delivered_from: Optional[Tuple[int, ...]] = None  # what it had before the receipts of a `delivered` that is under way
-        self.unshown: List[Tuple[int, str]] = []  # changes that only `delivered` brought and that no list shows
         self.at_last = self.has
         self.since: List[Tuple[int, int, int]] = []  # the receipts since its last list: author, n and line
         self.is_viewed = False  # whether a view follows them
         self.shown: Optional[str] = None
 
 
-def _hidden(lines: List[str], delivered: List[Tuple[int, int]]) -> List[str]:
-    """What an accepted trace with these lines may hide, where calls of `delivered` wrote these ranges; tools/explaining/warnings.py says
-    the same of a file. Of many calls the last are told of alone, and what stands before these may be of earlier ones."""
+def _hidden(lines: List[str]) -> List[str]:
+    """What an accepted trace with these lines may hide; tools/explaining/warnings.py says the same of a file."""
     if len(lines) == HEAD_LINES:
         return ["nothing was recorded: the trace has no entry, so the verdict says nothing of an editor"]
     ends = [_End(int(lines[1].split(" ")[1])) for _ in range(int(lines[1].split(" ")[1]))]
     inserted: Set[str] = set()
     deletes: List[Tuple[str, str]] = []
     past_end: List[str] = []
-    ranges = delivered[-MOST_DELIVERED:]
-    known_from = ranges[0][0] if len(ranges) == MOST_DELIVERED else 0
-    at, writes_receipts = 0, False  # the range that is next, and whether the code writes receipts itself
     for line, entry in enumerate(lines[HEAD_LINES:], HEAD_LINES + 1):
         words = entry.split(" ", 4)
         replica, kind = int(words[0]), words[1]
         one = ends[replica]
         if kind == "recv":
             author, n = int(words[2]), int(words[3])
-            while at < len(ranges) and ranges[at][1] < line:
-                at += 1
-            if at == len(ranges) or line < ranges[at][0]:
-                writes_receipts = writes_receipts or line >= known_from
-            elif one.delivered_from is None:
-                one.delivered_from = one.has
             one.receipts += 1
             one.has = _most(one.has, ends[author].pasts[n - 1])
             one.since.append((author, n, line))
@@ -843,12 +830,9 @@ def _hidden(lines: List[str], delivered: List[Tuple[int, int]]) -> List[str]:
         if not one.is_viewed:
             one.at_last, one.since = one.has, []
             one.shown = entry.partition(":")[2]
-            one.unshown += _unshown_changes(ends, one) if writes_receipts and one.delivered_from is not None else []
-            one.delivered_from = None
         if kind in ("ins", "del"):
             one.changes.append(n)
             one.lines.append(line)
-            one.elements.append((words[2], kind == "ins"))
         if kind == "ins":
             inserted.add(words[2])
             before = words[4].count(" ") - 1  # names in the list before it
@@ -861,7 +845,7 @@ def _hidden(lines: List[str], delivered: List[Tuple[int, int]]) -> List[str]:
     of_nothing = [told for name, told in deletes if name not in inserted]
     silent = [f"replica {replica} has {'receipts, but no operation' if one.receipts else 'no entry'}: nothing that it showed is judged"
               for replica, one in enumerate(ends) if not one.pasts]
-    return [*_different(ends), *_unheard(ends), *_unshown(ends), *_told_alone(ends), *silent, *_some(of_nothing, "delete", "of elements that no line inserts"),
+    return [*_different(ends), *_unheard(ends), *_unshown(ends), *silent, *_some(of_nothing, "delete", "of elements that no line inserts"),
             *_some(past_end, "insert", "past the end of a list")]
 
 
@@ -939,30 +923,6 @@ def _unshown(ends: List[_End]) -> List[str]:
             but = " but a view" if one.is_viewed else ""
             told.append(f"replica {replica} received {_listing(news, len(news))} last, and shows no list{but} after "
                         f"{'that' if len(news) == 1 else 'them'}: let each replica read at the end")
-    return told
-
-
-def _unshown_changes(ends: List[_End], one: _End) -> List[Tuple[int, str]]:
-    """The changes that a call of `delivered` brings to the replica and that its list behind it can't show: inserts of elements that are
-    deleted by then, and these deletes. As lines and operations."""
-    brought: List[Tuple[int, str, str, bool]] = []
-    for author, (other, before, now) in enumerate(zip(ends, one.delivered_from or (), one.has)):
-        if other is not one:
-            brought += [(other.lines[at], f"{author}.{other.changes[at]}", *other.elements[at])
-                        for at in range(bisect_right(other.changes, before), bisect_right(other.changes, now))]
-    gone = {element for _, _, element, is_insert in brought if is_insert} - set((one.shown or "").split())
-    return [(line, name) for line, name, element, _ in sorted(brought) if element in gone]
-
-
-def _told_alone(ends: List[_End]) -> List[str]:
-    """Of replicas to which `delivered` brings changes that no list shows, where the code writes receipts itself."""
-    told = []
-    for replica, one in enumerate(ends):
-        if one.unshown:
-            changes = [f"{name} (line {line})" for line, name in one.unshown]
-            told.append(f"only `delivered` says that {_listing(changes, len(changes))} arrived at replica {replica}: no receipt before does, "
-                        "and no list can show it, since what was inserted was deleted again. Unless their receipts are left to `delivered` "
-                        "on purpose, they were lost or are held back")
     return told
 
 

@@ -823,7 +823,8 @@ impl Recording {
     }
 
     fn explained(&self, explainer: &str, goal: &[&str]) -> Result<String, String> {
-        let ranges: Vec<String> = self.deliveries_known().0.iter().map(|(from, to)| format!("{from}-{to}")).collect();
+        let last = &self.deliveries[self.deliveries.len().saturating_sub(MOST_DELIVERED)..];
+        let ranges: Vec<String> = last.iter().map(|(from, to)| format!("{from}-{to}")).collect();
         let mut words = [goal, &["--language", LANGUAGE]].concat();
         words.extend(ranges.iter().flat_map(|range| ["--delivered", range]));
         let refusals = self.refusals.told();
@@ -943,12 +944,6 @@ impl Recording {
             }
         }
         self.said(replica, "read", None, list).map(drop)
-    }
-
-    /// Which lines the last calls of `delivered` wrote, as many as are told of, and from which line on these are all.
-    fn deliveries_known(&self) -> (&[(usize, usize)], usize) {
-        let known = &self.deliveries[self.deliveries.len().saturating_sub(MOST_DELIVERED)..];
-        (known, if known.len() == MOST_DELIVERED { known[0].0 } else { 0 })
     }
 
     /// Where the recording stands now.
@@ -1162,14 +1157,11 @@ struct Warned<'a> {
     here: PathBuf,
 }
 
-/// The lines of a replica's changes, and their elements with whether they are inserted; whether it has receipts; the names of the list that it
-/// showed last, which a view is not, and the number of that operation; which receipts came since, each as the author, the operation's number
-/// and the line, and whether a view follows them; and the changes that only `delivered` brought and that no list shows, as lines and operations.
+/// The lines of a replica's changes; whether it has receipts; the names of the list that it showed last, which a view is not, and the number of
+/// that operation; which receipts came since, each as the author, the operation's number and the line, and whether a view follows them.
 #[derive(Default)]
 struct Entries<'a> {
     lines: Vec<usize>,
-    elements: Vec<(&'a str, bool)>,
-    unshown: Vec<(usize, usize, u32)>,
     is_receiving: bool,
     since: Vec<(usize, u32, usize)>,
     is_viewed: bool,
@@ -1185,23 +1177,13 @@ impl<'a> Warned<'a> {
         let mut inserted = HashSet::new();
         let mut deletes = Vec::new();
         let mut operations = vec![0; recording.replicas.len()];
-        let (mut deliveries, known_from) = recording.deliveries_known();
-        let mut writes_receipts = false;
         for (at, entry) in recording.lines.lines().skip(HEAD_LINES).enumerate() {
             let line = at + HEAD_LINES + 1;
             let (head, names) = entry.split_once(':').unwrap_or((entry, ""));
             let words: Vec<&str> = head.split_ascii_whitespace().collect();
             let replica = number(words[0]) as usize;
-            while matches!(deliveries.first(), Some(&(_, last)) if last < line) {
-                deliveries = &deliveries[1..];
-            }
-            let delivered_from = deliveries.first().map(|&(first, _)| first).filter(|&first| first <= line);
-            if delivered_from.is_some() && writes_receipts && words[1] == "read" {
-                warned.note_unshown(replica, operations[replica] + 1, delivered_from, names);
-            }
             let own = &mut warned.replicas[replica];
             if words[1] == "recv" {
-                writes_receipts |= delivered_from.is_none() && line >= known_from;
                 own.is_receiving = true;
                 own.since.push((number(words[2]) as usize, number(words[3]), line));
                 own.is_viewed = false;
@@ -1218,7 +1200,6 @@ impl<'a> Warned<'a> {
             match words[1] {
                 "ins" => {
                     own.lines.push(line);
-                    own.elements.push((words[2], true));
                     inserted.insert(words[2]);
                     let before = names.matches(' ').count() as i64 - 1;
                     if i64::from(number(words[3])) > before {
@@ -1232,7 +1213,6 @@ impl<'a> Warned<'a> {
                 }
                 "del" => {
                     own.lines.push(line);
-                    own.elements.push((words[2], false));
                     deletes.push((words[2], named));
                 }
                 _ => {}
@@ -1254,7 +1234,6 @@ impl<'a> Warned<'a> {
         let mut all = self.different();
         all.extend(self.unheard());
         all.extend(self.unshown());
-        all.extend(self.told_alone());
         all.extend(self.without_operation());
         all.extend(some(&self.of_nothing, "delete", "of elements that no line inserts"));
         all.extend(some(&self.past_end, "insert", "past the end of a list"));
@@ -1379,51 +1358,6 @@ impl<'a> Warned<'a> {
                     listed(&news)
                 ));
             }
-        }
-        told
-    }
-
-    /// Notes the changes that a call of `delivered`, whose lines begin there, brings to a replica and that its list behind it can't show:
-    /// inserts of elements that are deleted by then, and these deletes.
-    fn note_unshown(&mut self, replica: usize, read: u32, from: Option<usize>, names: &str) {
-        let entries = &self.replicas[replica];
-        let mut has = match entries.last {
-            0 => vec![0; self.replicas.len()],
-            last => self.recording.replicas[replica].pasts[last as usize - 1].to_vec(),
-        };
-        for &(author, n, _) in entries.since.iter().filter(|(_, _, line)| Some(*line) < from) {
-            let past = self.recording.replicas[author].pasts[n as usize - 1].iter();
-            has.iter_mut().zip(past).for_each(|(have, &seen)| *have = seen.max(*have));
-            has[author] = n.max(has[author]);
-        }
-        let now = &self.recording.replicas[replica].pasts[read as usize - 1];
-        let mut brought = Vec::new();
-        for (author, of) in self.recording.replicas.iter().enumerate().filter(|(author, _)| *author != replica) {
-            let place = |most: u32| of.changes.partition_point(|&n| n <= most);
-            for at in place(has[author])..place(now[author]) {
-                let (element, is_insert) = self.replicas[author].elements[at];
-                brought.push((self.replicas[author].lines[at], author, of.changes[at], element, is_insert));
-            }
-        }
-        let shown: HashSet<&str> = names.split_ascii_whitespace().collect();
-        let inserted = brought.iter().filter(|(.., element, is_insert)| *is_insert && !shown.contains(element));
-        let gone: HashSet<&str> = inserted.map(|&(.., element, _)| element).collect();
-        brought.sort_unstable();
-        let unshown = brought.iter().filter(|(.., element, _)| gone.contains(element));
-        self.replicas[replica].unshown.extend(unshown.map(|&(line, author, n, ..)| (line, author, n)));
-    }
-
-    /// Of replicas to which `delivered` brings changes that no list shows, where the code writes receipts itself.
-    fn told_alone(&self) -> Vec<String> {
-        let mut told = Vec::new();
-        for (replica, entries) in self.replicas.iter().enumerate().filter(|(_, entries)| !entries.unshown.is_empty()) {
-            let changes: Vec<String> =
-                entries.unshown.iter().map(|&(line, author, n)| format!("{author}.{n} {}", self.line(line))).collect();
-            told.push(format!(
-                "only `delivered` says that {} arrived at replica {replica}: no receipt before does, and no list can show it, since what was \
-                 inserted was deleted again. Unless their receipts are left to `delivered` on purpose, they were lost or are held back",
-                listed(&changes)
-            ));
         }
         told
     }

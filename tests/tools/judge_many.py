@@ -33,7 +33,6 @@ from shared.traces import two_rings  # noqa: E402
 sys.path[:0] = [str(ROOT / "recorders" / "engines"), str(ROOT / "recorders"), str(ROOT / "tools")]
 import merge  # noqa: E402
 import sessions as exchanged  # noqa: E402
-from domepeeler import Recording  # noqa: E402
 from explaining import files, judges, lookers, rows  # noqa: E402
 from list_crdt import Group, play  # noqa: E402
 
@@ -96,9 +95,6 @@ WARNINGS = {
 }
 LACKED = re.compile(r"((?:\d+\.\d+ \(line \d+\)(?:, | and )?|\d+ more )+) ?never arrived at replicas? (\d+(?:(?:, | and )\d+(?!\d|\.\d))*)")
 NAMED = re.compile(r"(\d+)\.(\d+) \(line (\d+)\)")
-PLACED = re.compile(r"(\d+)\.(\d+) \(line (\d+), [^()]*\)")
-TOLD_ALONE = 150  # sessions
-TOLD_ALONE_WORDS = re.compile(r"only `delivered` says that (.*) arrived at replica (\d+): no receipt before does, and no list can show it, since ")
 
 KINDS_EXCHANGED = [exchanged.SMALL_PEERS, exchanged.SMALL_STAR, exchanged.SMALL_MIDDLE]
 
@@ -817,101 +813,6 @@ def warnings_of_sessions(tally: Tally, program: str, folder: str) -> None:
         tally.check("sessions: unequal", row.get("unequal", False) == bool(wanted["unheard"] or wanted["ends"] or wanted["unshown"] or is_silent), row)
         tally.check("sessions: none where all was exchanged", not (said and name.startswith("exchanged")), row)
     tally.check("sessions: some without a warning, some with", EXCHANGED <= quiet <= EXCHANGED + SESSIONS - 30, quiet)
-
-
-def whole(rnd: random.Random, recording: Recording, losses: float) -> None:
-    """A random session of three replicas which show the elements that they know in one order, so that it is accepted whatever is recorded
-    of it. Of what arrives some receipts are left out, now and then and in the end by `delivered`."""
-    order, known, deleted = [], [set() for _ in range(3)], [set() for _ in range(3)]
-
-    def shown(replica: int) -> list:
-        return [name for name in order if name in known[replica] - deleted[replica]]
-
-    def all_delivered() -> None:
-        for replica in range(3):
-            known[replica], deleted[replica] = set().union(*known), set().union(*deleted)
-        recording.delivered([shown(replica) for replica in range(3)])
-
-    for step in range(rnd.randint(4, 14)):
-        replica, other = rnd.sample(range(3), 2)
-        here = shown(replica)
-        if here and rnd.random() < 0.4:
-            gone = rnd.choice(here)
-            deleted[replica].add(gone)
-            recording.delete(replica, gone, shown(replica))
-        elif rnd.random() < 0.6:
-            name, position = f"e{step}", rnd.randint(0, len(here))
-            order.insert(order.index(here[position - 1]) + 1 if position else 0, name)
-            known[replica].add(name)
-            recording.insert(replica, name, position, shown(replica))
-        elif rnd.random() < losses and (n := recording.read(other, shown(other))):
-            known[replica] |= known[other]
-            deleted[replica] |= deleted[other]
-            recording.received(replica, other, n)
-            recording.read(replica, shown(replica))
-        elif rnd.random() < 0.2:
-            all_delivered()
-    all_delivered()
-
-
-def told_by_delivered(text: str, ranges: list) -> dict:
-    """What a slow reader of the definitions finds: by replica the changes that only `delivered` brought, and which the list behind it can't
-    show, where some receipt is not of `delivered`. These are inserts of what is deleted by then, and these deletes."""
-    lines = text.splitlines()
-    is_by_hand = [" recv " in line and not any(first <= number <= last for first, last in ranges) for number, line in enumerate(lines, 1)]
-    found = {}
-    for first, last in ranges:
-        for number in range(first, last + 1):
-            if " read :" in lines[number - 1] and any(is_by_hand[:number]):
-                replica = int(lines[number - 1].split()[0])
-                before, after = (changes_at(lines[:at], replica) for at in (first - 1, number))
-                brought = {f: body for f, body in after.items() if f not in before}
-                gone = {body.name for body in brought.values() if body.kind == "ins"} - set(lines[number - 1].split()[3:])
-                found.setdefault(replica, []).extend(sorted(f for f, body in brought.items() if body.name in gone))
-    return {replica: sorted(changes) for replica, changes in found.items() if changes}
-
-
-def changes_at(lines: list, replica: int) -> dict:
-    """The inserts and deletes that the replica has behind these lines: those that another read of it would see."""
-    recording = verdicts.recording_of("".join(f"{line}\n" for line in [*lines, f"{replica} read :"]))
-    last = (replica, max(n for author, n in recording.operations if author == replica))
-    pairs = verdicts.visibility(recording)
-    return {f: body for f, body in recording.operations.items() if body.kind in ("ins", "del") and (f, last) in pairs}
-
-
-def told_alone(tally: Tally, program: str, folder: str) -> None:
-    """Changes that `delivered` alone brought, and that no list shows, are warned of where the code writes receipts itself: exactly those
-    that the slow reader finds, by the recorder and by the tool, which makes these count as unequal."""
-    rnd = random.Random(SEED)
-    wanted, by_recorder = {}, {}
-    for i in range(TOLD_ALONE):
-        recording = Recording(3)
-        whole(rnd, recording, rnd.choice((0.0, 0.3, 0.8)))
-        recording.save(f"{folder}/{i}.trace")
-        ranges = [tuple(map(int, line.split()[1:])) for line in Path(folder, f"{i}.trace.lines").read_text().splitlines() if line.startswith("delivered ")]
-        wanted[i] = told_by_delivered(recording.text(), ranges)
-        by_recorder[i] = recording.warnings()
-    for row in map(json.loads, judge(program, ["--json", folder]).out.decode().splitlines()):
-        i = int(Path(row["file"]).stem)
-        said = [match for match in map(TOLD_ALONE_WORDS.match, row.get("warnings", [])) if match]
-        got = {int(match[2]): ([(int(author), int(n)) for author, n, _ in PLACED.findall(match[1])], sum(map(int, re.findall(r"(\d+) more", match[1]))))
-               for match in said}
-        first = {replica: (changes[:3], max(0, len(changes) - 3)) for replica, changes in in_lines(wanted[i], row["file"]).items()}
-        tally.check("told by `delivered` alone", row["verdict"] == "accepted" and got == first and row.get("unequal", False) == bool(row.get("warnings")), f"{row}: {first}")
-        tally.same("told by `delivered` alone: the recorder", by_recorder[i], row.get("warnings", []))
-    count = sum(map(bool, wanted.values()))
-    tally.check("told by `delivered` alone: in some sessions, not in all", TOLD_ALONE / 10 < count < TOLD_ALONE * 9 / 10, count)
-
-
-def in_lines(found: dict, path: str) -> dict:
-    """The changes of each replica in the order of the trace."""
-    counts, order = {}, {}
-    for number, line in enumerate(Path(path).read_text().splitlines()[2:], 3):
-        replica, kind = line.split()[:2]
-        if kind != "recv":
-            counts[replica] = counts.get(replica, 0) + 1
-            order[int(replica), counts[replica]] = number
-    return {replica: sorted(changes, key=order.get) for replica, changes in found.items()}
 
 
 def name_of(tool: str) -> str:
@@ -1997,8 +1898,6 @@ def main() -> None:
         fails_at(tally, program, third)
         warnings(tally, program, folder)
         warnings_of_sessions(tally, program, other)
-        with tempfile.TemporaryDirectory() as fourth:
-            told_alone(tally, program, fourth)
     for check in (pythons, little_memory, not_looked_at, changing, told_of_what_was_judged, explained_once, weak, weak_junit, weak_in_ci,
                   known_as_cut, refused_calls, grouped, no_entries, no_files, overwriting, millions_of_names, odd_names, one_way_to_show, odd_words, names_like_commands, tasks, script_of_ci,
                   big_traces, time_of_small, time_of_big, long_cycles):

@@ -28,8 +28,6 @@ from urllib.parse import unquote, unquote_to_bytes
 
 ROOT = Path(__file__).resolve().parents[2]
 sys.path[:0] = [str(ROOT / "tests"), str(ROOT / "tools")]
-from explaining.files import Side  # noqa: E402
-from explaining.places import beside  # noqa: E402
 from explaining.warnings import hidden  # noqa: E402
 from shared.program import Tally, install, library_of, need, processor_seconds, program_of, run  # noqa: E402
 
@@ -1393,8 +1391,6 @@ NEVER_HEARS = ("replica {} never hears of {}: no receipt brings it an insert or 
                "At the end of a session let everyone receive everything, and then read the list")
 LOST_ONE = "Unless it was still on its way, it was lost or is held back"
 LOST_SOME = "Unless they were still on their way, they were lost or are held back"
-TOLD_ALONE = ("only `delivered` says that {} arrived at replica {}: no receipt before does, and no list can show it, since what was inserted "
-              "was deleted again. Unless their receipts are left to `delivered` on purpose, they were lost or are held back")
 OF_NOTHING = ("line {0}, 0.{1}: replica 0 deleted {2}, which no line inserts, so no response shows whether it was deleted: is {2} the "
               "right name, and was its insert recorded?")
 PAST_END = "line {0}, 0.{1}: replica 0 inserted {2} at position {3}, past the end of a list of length {4}, so it counts as the end: was position {3} asked for?"
@@ -1439,23 +1435,6 @@ WARNED = [
     ("receipts alone, and no entry", ["new 3", "insert 0 a 0 a", "received 1 0 1"],
      ["replica 1 has receipts, but no operation: nothing that it showed is judged",
       "replica 2 has no entry: nothing that it showed is judged"]),
-    ("what `delivered` alone brings, and no list shows", ["new 2", "insert 0 a 0 a", "received 1 0 1", "insert 0 b 1 a b", "delete 0 b a", "delivered a / a"],
-     [TOLD_ALONE.format("0.2 (line 5) and 0.3 (line 6)", 1)]),
-    ("the same where no receipt is written by hand", ["new 2", "insert 0 a 0 a", "insert 0 b 1 a b", "delete 0 b a", "delivered a / a"], []),
-    ("what `delivered` brings and a list shows", ["new 2", "insert 0 a 0 a", "received 1 0 1", "insert 0 b 1 a b", "delete 0 a b", "delivered b / b"], []),
-    ("a delete that another one made needless", ["new 2", "insert 0 a 0 a", "received 1 0 1", "delete 0 a", "delete 1 a", "delivered /"], []),
-    ("several calls of it, several authors, and more than are told", [
-        "new 3", "insert 0 a 0 a", "received 1 0 1", "insert 0 b 1 a b", "received 1 0 2", "delete 1 b a", "delivered a / a / a", "insert 2 c 0 c a",
-        "delete 2 c a", "delivered a / a / a", "insert 0 d 0 d a", "view 1", "delivered d a / d a / d a"],
-     [TOLD_ALONE.format("2.2 (line 14) and 2.3 (line 15)", 0), TOLD_ALONE.format("2.2 (line 14) and 2.3 (line 15)", 1),
-      TOLD_ALONE.format("0.2 (line 5) and 1.1 (line 7)", 2)]),
-    ("more of them than are told, by `delivered`", ["new 2", "insert 0 a 0 a", "received 1 0 1", "insert 0 b 1 a b", "delete 0 b a", "insert 0 c 0 c a",
-                                                   "delete 0 c a", "delivered a / a"],
-     [TOLD_ALONE.format("0.2 (line 5), 0.3 (line 6), 0.4 (line 7) and 1 more", 1)]),
-    ("a hundred calls, of which all are known", ["new 2", "insert 0 a 0 a", "received 1 0 1", *["delivered a / a"] * 98, "insert 0 b 1 a b", "delete 0 b a",
-                                                "delivered a / a"], [TOLD_ALONE.format("0.100 (line 201) and 0.101 (line 202)", 1)]),
-    ("a hundred and one calls, of which the first is not", ["new 2", "insert 0 a 0 a", *["delivered a / a"] * 100, "insert 0 b 1 a b", "delete 0 b a",
-                                                           "delivered a / a"], []),
     ("deletes of what nothing inserts", ["new 1", *(f"delete 0 {one}" for one in "uvwxyz")],
      [*(OF_NOTHING.format(n + 2, n, one) for n, one in enumerate("uvwxy", 1)), "and 1 more delete of elements that no line inserts"]),
     ("positions past the end", ["new 1", "insert 0 a 5 a", "insert 0 b 1 a b", *(f"insert 0 {one} 9 {'a b c d e f g'[:2 * at + 5]}"
@@ -1465,13 +1444,12 @@ WARNED = [
 ]
 
 
-def check_warnings(tally: Tally, recorder: Recorder, folder: Path) -> None:
+def check_warnings(tally: Tally, recorder: Recorder) -> None:
     """What an accepted verdict may hide: the same words in all languages, and the tools' words of the same text. In languages that know
     places in code, the nearest one stands behind each line in brackets. The report has these warnings, but where it accepts nothing."""
     source = (DRIVERS / f"driver.{recorder.language}").read_text().splitlines()
-    path = folder / f"warned.{recorder.language}.trace"
     for name, script, wanted in WARNED:
-        got = recorder.answers([*map(fields, script), "text", "warnings", "judge", fields(f"save {path}")])[:-1]
+        got = recorder.answers([*map(fields, script), "text", "warnings", "judge"])
         end = got.index("ok", len(script))
         text = "".join(line[2:] + "\n" for line in got[len(script):end])
         told = [line[2:] for line in got[end + 1:-2]]
@@ -1484,7 +1462,7 @@ def check_warnings(tally: Tally, recorder: Recorder, folder: Path) -> None:
                 one and PLACING[recorder.language] in source[int(one[1]) - 1] for one in found), told)
             told = [re.sub(rf", [^,()]*driver\.{recorder.language}:\d+\)", ")", line) for line in told]
         tally.check(f"{recorder.language}: warnings, {name}", told == wanted and got[-2] == "ok", (told, wanted))
-        ends, others = hidden(text.encode(), beside(text.encode(), Side(str(path), Path(f"{path}.lines").read_bytes())).delivered)
+        ends, others = hidden(text.encode())
         tally.check(f"{recorder.language}: the tools' warnings, {name}", told == ends + others, (told, text))
     got = recorder.answers(["new\t1", "insert\t0\ta\t0", "insert\t0\ta\t0", "judge"])[-1]
     report = json.loads(got[7:]) if got.startswith("report {") else {"verdict": got}
@@ -3426,7 +3404,7 @@ def main() -> None:
                 check_other_types(tally, recorder)
             ids[language] = check_ids(tally, recorder)
             tally.check(f"{language}: names of ids", ids[language] == ids["py"], ids)
-            check_warnings(tally, recorder, folder)
+            check_warnings(tally, recorder)
             check_notes(tally, recorder, folder)
             check_explains_file(tally, recorder, folder)
             check_full_delivery(tally, recorder)

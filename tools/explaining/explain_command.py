@@ -136,12 +136,11 @@ def same_as(evidence: Evidence, told: Evidence) -> str:
 
 def explain(asked: argparse.Namespace, program: str, trace: bytes, side: Side, judged: Judged) -> None:
     known = beside(trace, side)
-    delivered = tuple(asked.delivered) or known.delivered
-    evidence = Evidence(Recording(trace.decode(), delivered), judged.report)
+    evidence = Evidence(Recording(trace.decode(), tuple(asked.delivered) or known.delivered), judged.report)
     words, told = explained(evidence, report_of(program), asked.language or known.language or USUAL, asked.weak)
     is_alone = asked.weak and is_weak_alone(judged.report)
     refused = tuple(map(shown, asked.refused)) or known.refused
-    warnings = placed_warnings(warnings_of(judged.report["verdict"], trace, side, is_alone, refused, delivered).all, known)
+    warnings = placed_warnings(warnings_of(judged.report["verdict"], trace, side, is_alone, refused).all, known)
     words = with_places(with_warnings(words, warnings, refused), known)
     print(text_of(words), end="")
     if asked.html:

@@ -102,7 +102,7 @@ def row_of(request: Request, file: str, trace: bytes, side: Side, answer: Answer
         return failed(file, seconds, status, of_another_trace(request.program), lines)
     known = beside(trace, side)
     is_alone = request.weak and is_weak_alone(report)
-    warnings = warned_of(report["verdict"], trace, side, is_alone, known)
+    warnings = warned_of(report["verdict"], trace, side, is_alone, known.refused)
     row = Row(file, report["verdict"], report.get("k"), lines, seconds, status, report, "",
               placed_warnings(warnings.all, known) or None, bool(warnings.ends) or None, list(known.notes) or None,
               weak_alone=is_alone or None)
@@ -125,12 +125,12 @@ def fault_of(error: str, trace: bytes, file: str) -> list:
         return []
 
 
-def warned_of(verdict: str, trace: bytes, side: Side, is_passing: bool, known: Beside) -> Warnings:
+def warned_of(verdict: str, trace: bytes, side: Side, is_passing: bool, refused: tuple) -> Warnings:
     """What the verdict may hide; of the lines nothing where the program lies, and it is no trace."""
     try:
-        return warnings_of(verdict, trace, side, is_passing, known.refused, known.delivered)
+        return warnings_of(verdict, trace, side, is_passing, refused)
     except (ValueError, IndexError):
-        return Warnings([], [], [], list(known.refused))
+        return Warnings([], [], [], list(refused))
 
 
 def placed(row: Row, request: Request, trace: bytes, known: Beside) -> Row:

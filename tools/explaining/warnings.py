@@ -12,7 +12,6 @@ from .files import NO_SIDE, Side, shown
 
 MOST_TOLD = 5  # deletes, or inserts, that are told one by one
 MOST_CHANGES = 3  # that are told one by one of those that a replica lacks, or has made nothing of
-MOST_DELIVERED = 100  # calls of `delivered` that are known, the last ones
 MOST_BYTES = 64  # of the first line beside a trace that are looked at
 CUT = "the trace may have been cut at a line's end"
 SAVED = " were saved"  # ends what is said of one that is known to be cut
@@ -44,11 +43,11 @@ def is_first(warning: str) -> bool:
     return warning.startswith(NOTHING) or warning.endswith(UNKNOWN)
 
 
-def warnings_of(verdict: str, trace: bytes, side: Side = NO_SIDE, is_passing: bool = False, refused: tuple = (), delivered: tuple = ()) -> Warnings:
+def warnings_of(verdict: str, trace: bytes, side: Side = NO_SIDE, is_passing: bool = False, refused: tuple = ()) -> Warnings:
     """What to warn of where the program has given this verdict on the trace that has this file beside it, and a recorder has told of refused
-    calls, and which lines its `delivered` wrote. A verdict other than accepted hides nothing, but for what these say and what a cut has
-    taken away, and where it passes since weak holds."""
-    ends, others = hidden(trace, delivered) if verdict == "accepted" or is_passing else ([], [])
+    calls. A verdict other than accepted hides nothing, but for what these say and what a cut has taken away, and where it passes since weak
+    holds."""
+    ends, others = hidden(trace) if verdict == "accepted" or is_passing else ([], [])
     return Warnings(cut(trace, side), ends, others, list(refused))
 
 
@@ -59,10 +58,8 @@ class Seen:
     def __init__(self, replicas: int):
         self.has = (0,) * replicas
         self.pasts = []
-        self.changes, self.lines, self.elements = [], [], []  # an element with whether it is inserted
+        self.changes, self.lines = [], []
         self.receipts = 0
-        self.delivered_from = None  # what it had before the receipts of a `delivered` that is under way
-        self.unshown = []  # changes that only `delivered` brought and that no list shows, as lines and operations
         self.at_last, self.since = self.has, []  # what it had at its last list, and the receipts since: author, n and line
         self.shown, self.is_viewed = None, False  # and whether a view follows them
 
@@ -84,51 +81,28 @@ class Seen:
         return n
 
 
-class Delivered:
-    """Which lines calls of `delivered` wrote. Of many calls the last are known alone: what stands before these may be of earlier ones."""
-
-    def __init__(self, ranges: tuple):
-        self.ranges = ranges
-        self.known_from = ranges[0][0] if len(ranges) >= MOST_DELIVERED else 0
-        self.at = 0
-
-    def has(self, line: int) -> bool:
-        """Asked of lines in rising order."""
-        while self.at < len(self.ranges) and self.ranges[self.at][1] < line:
-            self.at += 1
-        return self.at < len(self.ranges) and self.ranges[self.at][0] <= line
-
-
-def hidden(trace: bytes, ranges: tuple = ()) -> tuple:
-    """What an accepted trace may hide, of which `delivered` wrote these ranges of lines: of how the replicas end, and else. Only texts that
-    the program takes for traces come here, so nothing is checked again."""
+def hidden(trace: bytes) -> tuple:
+    """What an accepted trace may hide: of how the replicas end, and else. Only texts that the program takes for traces come here, so
+    nothing is checked again."""
     _, second, *entries = trace.split(b"\n")[:-1]
     if not entries:
         return [], [f"{NOTHING}: the trace has no entry, so the verdict says nothing of an editor"]
     replicas = [Seen(int(second.split()[1])) for _ in range(int(second.split()[1]))]
     inserted, deletes, past_end = set(), [], []
-    delivered, writes_receipts = Delivered(ranges), False  # whether the code writes some itself
     for line, entry in enumerate(entries, 3):
         words = entry.split(b" ", 4)
         replica, kind = int(words[0]), words[1]
         one = replicas[replica]
         if kind == b"recv":
             author, n = int(words[2]), int(words[3])
-            if not delivered.has(line):
-                writes_receipts = writes_receipts or line >= delivered.known_from
-            elif one.delivered_from is None:
-                one.delivered_from = one.has
             one.receive(author, n, replicas[author].pasts[n - 1], line)
             continue
         n = one.act(replica, kind == b"view")
         if kind != b"view":
             one.shown = entry.partition(b":")[2]
-            one.unshown += unshown_changes(replicas, one) if writes_receipts and one.delivered_from is not None else []
-            one.delivered_from = None
         if kind in (b"ins", b"del"):
             one.changes.append(n)
             one.lines.append(line)
-            one.elements.append((words[2], kind == b"ins"))
         if kind == b"ins":
             inserted.add(words[2])
             before = words[4].count(b" ") - 1  # names in the list before it
@@ -140,7 +114,7 @@ def hidden(trace: bytes, ranges: tuple = ()) -> tuple:
                             f"so no response shows whether it was deleted: is {words[2].decode()} the right name, and was its insert recorded?"))
     of_nothing = [told for name, told in deletes if name not in inserted]
     others = [*some(of_nothing, "delete", "of elements that no line inserts"), *some(past_end, "insert", "past the end of a list")]
-    ends, silent = [*different(replicas), *unheard(replicas), *unshown(replicas), *told_alone(replicas)], without_operation(replicas)
+    ends, silent = [*different(replicas), *unheard(replicas), *unshown(replicas)], without_operation(replicas)
     if any(one.changes for one in replicas):  # of which a silent replica shows nothing
         return [*ends, *silent], others
     return ends, [*silent, *others]
@@ -221,30 +195,6 @@ def unshown(replicas: list) -> list:
             but = " but a view" if one.is_viewed else ""
             told.append(f"replica {replica} received {listed(news[:MOST_CHANGES], len(news))} last, and shows no list{but} after "
                         f"{'that' if len(news) == 1 else 'them'}: let each replica read at the end")
-    return told
-
-
-def unshown_changes(replicas: list, one: Seen) -> list:
-    """The changes that a call of `delivered` brings to the replica and that its list behind it can't show: inserts of elements that are
-    deleted by then, and these deletes. As lines and operations."""
-    brought = []
-    for author, (other, before, now) in enumerate(zip(replicas, one.delivered_from, one.has)):
-        if other is not one:
-            brought += [(other.lines[at], f"{author}.{other.changes[at]}", *other.elements[at])
-                        for at in range(bisect_right(other.changes, before), bisect_right(other.changes, now))]
-    gone = {element for _, _, element, is_insert in brought if is_insert} - set(one.shown.split())
-    return [(line, name) for line, name, element, _ in sorted(brought) if element in gone]
-
-
-def told_alone(replicas: list) -> list:
-    """Of replicas to which `delivered` brings changes that no list shows, where the code writes receipts itself."""
-    told = []
-    for replica, one in enumerate(replicas):
-        first = [f"{name} (line {line})" for line, name in one.unshown[:MOST_CHANGES]]
-        if first:
-            told.append(f"only `delivered` says that {listed(first, len(one.unshown))} arrived at replica {replica}: no receipt before does, "
-                        "and no list can show it, since what was inserted was deleted again. Unless their receipts are left to `delivered` "
-                        "on purpose, they were lost or are held back")
     return told
 
 
