@@ -84,7 +84,7 @@ WORDS = [
      "a: inserted by 0.1 (line 3)|b: inserted by 1.1 (line 4)|"
      "b arrived at replica 0 in line 5, a at replica 1 in line 6|"
      "Look at the order of concurrent inserts: a and b were inserted at the front without knowing of each other, and were shown in two different orders. "
-     "Use a rule that gives the same order everywhere (such as the replicas' numbers), and not the order of arrival or a number set on arrival. No fast path in the code may skip that rule.|"
+     "Use a rule that gives the same order everywhere (such as the replicas' numbers), and not the order of arrival or a number set on arrival. No fast path may skip that rule.|"
      "If the list is sorted by position identifiers, look at those of a and b: are the two equal, does one differ between replicas, or are numbers "
      "compared as text?" + stop(6, "replica 1 applies 0.1", 5)),
     ("a replica that turns two elements round when it deletes another", 2, "0 ins a 0 : a|1 ins b 0 : b|1 recv 0 1|1 read : a b|1 ins c 2 : a b c|1 del c : b a",
@@ -164,11 +164,11 @@ WORDS = [
      "1.2 (line 7) shows [c] between [a] and [b], which was put directly behind [a]; the author of [c] knew neither. If inserts find their place by a "
      "neighbour, look at how [c] found its place there: if the search skips [a], it must also skip all that was put behind [a].|"
      "Look at the order of concurrent inserts: b and c were inserted without knowing of each other, and were shown in two different orders. Use a rule that "
-     "gives the same order everywhere (such as the replicas' numbers), and not the order of arrival or a number set on arrival. No fast path in the code may skip that rule."),
+     "gives the same order everywhere (such as the replicas' numbers), and not the order of arrival or a number set on arrival. No fast path may skip that rule."),
     ("an insert behind what the other author did not know, which is deleted", 2, "0 ins a 0 : a|0 ins b 1 : a b|0 del a : b|1 ins c 0 : c|1 recv 0 3|"
      "1 read : c b|0 recv 1 1|0 read : b c", "Where to look|"
      "Look at the order of concurrent inserts: b and c were inserted without knowing of each other, and were shown in two different orders. Use a rule that "
-     "gives the same order everywhere (such as the replicas' numbers), and not the order of arrival or a number set on arrival. No fast path in the code may skip that rule.|"
+     "gives the same order everywhere (such as the replicas' numbers), and not the order of arrival or a number set on arrival. No fast path may skip that rule.|"
      "[b] was put directly behind [a]; the author of [c] did not know [a]. If inserts find their place by a neighbour, look at how [c] found its "
      "place: if the search skips [a], it must also skip all that was put behind [a]."),
     ("an insert between two that are deleted by others", 3, "0 ins a 0 : a|0 ins b 1 : a b|1 recv 0 2|2 recv 0 2|2 ins c 1 : a c b|1 del a : b|"
@@ -210,7 +210,7 @@ WORDS = [
      "above name an insert that arrived where its neighbour had been deleted. If replicas throw deleted elements away, nothing says then where the insert belongs; if they keep them, the search for its place must treat them like elements that are shown.|"
      "For the verdict on the whole trace (below): look at the order of concurrent inserts: a and b were inserted without knowing of each other, and were shown in two "
      "different orders. Use a rule that gives the same order everywhere (such as the replicas' numbers), and not the order of "
-     "arrival or a number set on arrival. No fast path in the code may skip that rule.|For the verdict on the whole trace (below): if the editor sends positions, the position of b was perhaps not adjusted for the delete of x by 0.2 (line 8), which replica 1 "
+     "arrival or a number set on arrival. No fast path may skip that rule.|For the verdict on the whole trace (below): if the editor sends positions, the position of b was perhaps not adjusted for the delete of x by 0.2 (line 8), which replica 1 "
      "knew and the author of b did not; or the position of the delete was not adjusted for an insert that the author of the delete had not seen.|"
      "" + stop(10, "replica 0 applies 2.1", 9, 5, 4, together=9) + "||What the whole trace shows: a circle, which no order allows|"
      "[a] before [b]: line 14, 1.2: replica 1 read the list, answered [a] [b]|"
@@ -390,7 +390,7 @@ WORDS = [
      "Look first at whether 0.2 (line 4) was lost on its way to replica 1, or overtaken: no receipt there names it, though all other changes of "
      "replica 0 have one. In an editor that sends positions, later changes then land in the wrong place.|"
      "Look at the order of concurrent inserts: c and y were inserted directly behind a without knowing of each other, and were shown in two different orders. Use a "
-     "rule that gives the same order everywhere (such as the replicas' numbers), and not the order of arrival or a number set on arrival. No fast path in the code may skip that rule."),
+     "rule that gives the same order everywhere (such as the replicas' numbers), and not the order of arrival or a number set on arrival. No fast path may skip that rule."),
     ("a delete that meets an insert and a delete which did not know each other", 2, "0 ins a 0 : a|0 ins b 1 : a b|0 ins c 2 : a b c|1 recv 0 3|"
      "1 read : a b c|0 del a : b c|1 ins d 3 : a b c d|0 recv 1 2|0 read : b c d|1 del c : a b d|0 recv 1 3|0 read : b c",
      "It looks as if 1.3 (line 12), applied at replica 0, deleted d instead of c: look at how a replica that applies a delete finds the element, and at whether the recorder "

@@ -90,7 +90,7 @@ BEHIND_UNKNOWN = ("[{element}] was put directly behind [{behind}]; the author of
                   "[{other}] found its place: if the search skips [{behind}], it must also skip all that was put behind [{behind}].")
 CONCURRENT = ("Look at the order of concurrent inserts: {first} and {then} were inserted{place} without knowing of each other, and were shown "
               "in two different orders. Use a rule that gives the same order everywhere (such as the replicas' numbers), and not the order of "
-              "arrival or a number set on arrival. No fast path in the code may skip that rule.")
+              "arrival or a number set on arrival. No fast path may skip that rule.")
 POSITIONS = ("Look at how a position is adjusted where a change arrives: the position of {element} was perhaps not adjusted for {changes}, which "
              "replica {replica} knew and the author of {element} did not{back}. Or look at the order of concurrent inserts: {first} and {then} were inserted without knowing of each "
              "other, and were shown in two different orders. Use a rule that gives the same order everywhere (such as the replicas' numbers).")
