@@ -154,6 +154,7 @@ class Log:
         said, self.beside = COUNT.fullmatch(b"".join(whole[:1]).strip()), whole[1:]
         self.unsure = "" if said else self.unsure
         self.saved = int(said[0]) if said else self.count
+        self.refused = [line for line in whole if REFUSED.fullmatch(line)]  # whatever else is wrong: what they say is in no log
         if self.saved != self.count or not said:
             self.beside = []  # it is of another text
 
@@ -173,7 +174,7 @@ def beside_trace(logs, lines):
     places = [log.places() for log in logs]
     found = [(number, places[log].get(b"%d" % at)) for number, (_, log, at) in enumerate(lines, 1)]
     notes = list(dict.fromkeys(line for log in logs for line in log.beside if NOTE.fullmatch(line)))[:MOST_NOTES]
-    refused = [line for log in logs for line in log.beside if REFUSED.fullmatch(line)][:MOST_REFUSED]
+    refused = [line for log in logs for line in log.refused][:MOST_REFUSED]
     marks = notes + [MERGED_MARK] + [LOG_MARK] * any(LOG_MARK in log.beside for log in logs) + refused
     told = [b"%d %b" % one for one in found if one[0] > HEAD and one[1]]
     return b"".join(line + b"\n" for line in [b"%d" % (len(lines) + sum(log.lost() for log in logs))] + marks + told)
@@ -326,6 +327,9 @@ def main():
             say("warning: %s%s %s, so nothing says whether %s is whole" % (log.path, SIDE, log.unsure, log.path))
         if log.lost():
             say("warning: %s may have been cut at a line's end: it has %d lines, and %s%s says that %d were saved"
+                % (log.path, log.count, log.path, SIDE, log.saved))
+        if log.saved < log.count:
+            say("warning: %s has %d lines, and %s%s says that %d were saved: is that file of another log?"
                 % (log.path, log.count, log.path, SIDE, log.saved))
     try:
         lines = lines_of([log.text for log in logs], paths)

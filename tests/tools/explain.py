@@ -1705,6 +1705,10 @@ def contradicted(tally: Tally, folder: str) -> None:
                         and b"agrees with its status" in passed.err, passed)
         tally.check(f"a contradiction: {lie['verdict']}", got.status == (2 if lie["verdict"] == "accepted" else 1) and not got.out and
                     b"can't explain" in got.err, got)
+    for status in 0, 1, 2:
+        liar.write_text(f"#!/bin/sh\ncat > /dev/null\necho 'finder: line 3: shape' >&2\nexit {status}\n")
+        got = explain(str(liar), ["-"], trace)
+        tally.check(f"no report, and status {status}", got.status == (status or 2) and not got.out and got.err.startswith(b"finder: line 3: shape\n"), got)
     for lie in {"verdict": "accepted"}, {"verdict": "accepted", "operations": 3, "order": ["a", "b"]}:
         liar.write_text(f"#!/bin/sh\ncat > /dev/null\necho '{json.dumps(lie)}'\n")
         told = f"domepeeler-explain: {liar} printed a report that is not on this trace: is it domepeeler?\n"

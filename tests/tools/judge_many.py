@@ -390,6 +390,11 @@ def errors(tally: Tally, program: str, folder: str) -> None:
         tally.check(f"given twice: {words[0]}", got.status == 2 and not got.out
                     and got.err.endswith(f": error: argument {words[0]}: it is given twice\n".encode())
                     and not os.path.exists(f"{folder}/b.xml"), got)
+    got = run(TOOL, ["--program", program, "--junit", "", folder])
+    tally.check("an empty name of a file", got.status == 2 and not got.out and got.err.endswith(b": error: argument --junit: a file's name is not empty\n"), got)
+    for option in "--we", "--js", "--un":
+        got = run(TOOL, [option, "--program", program, folder])
+        tally.check(f"no option is shortened: {option}", got.status == 2 and not got.out and got.err.endswith(f": unrecognized arguments: {option}\n".encode()), got)
     for jobs in "0", "-1", "2.5", "all", "":
         tally.same(f"jobs: {jobs!r}", judge(program, [f"--jobs={jobs}", folder]),
                    Ended(2, b"", f"domepeeler-judge-many: --jobs is a number from 1 on, not {jobs or 'nothing'}\n".encode()))
@@ -628,6 +633,15 @@ def known_as_cut(tally: Tally, program: str, folder: str) -> None:
         row = json.loads(judge(program, ["--json", f"{folder}/{name}.trace"]).out)
         tally.check(f"cut: its object, {name}", row["verdict"] == "failed" and row["error"] == error.partition(": ")[2] and "fails_at" not in row
                     and row["report"]["verdict"] == verdict, row)
+    Path(folder, "longer").mkdir()
+    Path(folder, "longer", "s.trace").write_text("trace 1\nreplicas 1\n0 ins a 0 : a\n0 read : a\n")
+    Path(folder, "longer", "s.trace.lines").write_text("3\nrefused what it says\n")
+    for i in range(8):
+        Path(folder, "longer", f"apart{i}.trace").write_text(Path(folder, f"apart{i}.trace").read_text())
+    got = judge(program, [f"{folder}/longer"])
+    tally.check("longer than what was saved: failed, and said first", got.status == 2 and got.err.decode().splitlines()[0] == (
+        f"domepeeler-judge-many: {folder}/longer/s.trace: the trace has 4 lines, and {folder}/longer/s.trace.lines says that 3 were saved: is that file of "
+        "another trace?") and b"8 accepted, 1 failed" in got.out, got)
     Path(folder, "mixed").mkdir()
     for name, lines in ("aa", "0 inz a 0 : a\n"), ("half", "0 ins a 0 : a\n0 rea"), ("zz", "0 ins a 0 : a\n"):
         Path(folder, "mixed", f"{name}.trace").write_text(f"trace 1\nreplicas 1\n{lines}")

@@ -1815,6 +1815,7 @@ LOGS_BESIDE = [text.replace(b"\n", b"\nlog\n", 1) for text in CODE_BESIDE]
 MERGED_PLACES = "3 a.py:1\n4 a.py:2, called from b.py:9\n6 c.py:4\n7 d.py:3\n8 d.py:4\n11 a.py:5\n"
 NO_NUMBER = "merge.py: warning: {0}.lines holds no line count, so nothing says whether {0} is whole\n"
 CUT = "merge.py: warning: {0} may have been cut at a line's end: it has {1} lines, and {0}.lines says that {2} were saved\n"
+MORE = "merge.py: warning: {0} has {1} lines, and {0}.lines says that {2} were saved: is that file of another log?\n"
 MERGED_BESIDE = [
     ("nothing", [None, None, None], "11\nmerged\n", ""),
     ("code", CODE_BESIDE, f"11\nmerged\n{MERGED_PLACES}", ""),
@@ -1825,7 +1826,9 @@ MERGED_BESIDE = [
     ("one that was moved alone", [None, CODE_BESIDE[1], None], "11\nmerged\n6 c.py:4\n", ""),
     ("cut logs", [CODE_BESIDE[0], b"10\n4 c.py:4\n", b"5\n3 d.py:3\n"],
      "18\nmerged\n3 a.py:1\n4 a.py:2, called from b.py:9\n11 a.py:5\n", CUT.format("1.log", 4, 10) + CUT.format("2.log", 4, 5)),
-    ("another log's", [b"4\n4 c.py:4\n", CODE_BESIDE[1], None], "11\nmerged\n6 c.py:4\n", ""),
+    ("another log's", [b"4\n4 c.py:4\n", CODE_BESIDE[1], None], "11\nmerged\n6 c.py:4\n", MORE.format("0.log", 7, 4)),
+    ("a log's that has grown, with refused calls", [b"4\nrefused what it says\n4 c.py:4\n", None, b"9\nrefused and this\n"],
+     "16\nmerged\nrefused what it says\nrefused and this\n", MORE.format("0.log", 7, 4) + CUT.format("2.log", 4, 9)),
     ("what is no place", [b"7\nplace\n3 \n\n09 a.py:1\n2 a.py:2\n5 a.py:3", b"no number\n3 c.py:3\n", b""], "11\nmerged\n",
      NO_NUMBER.format("1.log") + NO_NUMBER.format("2.log")),
     ("what is no text", [b"7\n3 \xc3\xa9\xff.py:1\n", b"1" * 5000 + b"\n4 c.py:4\n", b"\n"], "11\nmerged\n3 \u00e9\udcff.py:1\n",

@@ -27,7 +27,11 @@ class Stopped(BaseException):
 
 
 class Parser(ArgumentParser):
-    """A parser that shows a wrong word as a file's name is shown: with `*` a user has names in its place."""
+    """A parser that shows a wrong word as a file's name is shown: with `*` a user has names in its place. Options are written out: what
+    calls these tools, as a script of CI, looks for them too."""
+
+    def __init__(self, **given: object):
+        super().__init__(allow_abbrev=False, **given)
 
     def error(self, message: str) -> NoReturn:
         super().error(shown(message))
@@ -39,6 +43,8 @@ class Once(Action):
     def __call__(self, parser: ArgumentParser, asked: Namespace, value: object, option: str | None = None) -> None:
         if getattr(asked, self.dest) is not self.default:
             parser.error(f"argument {option}: it is given twice")
+        if self.metavar == "FILE" and value == "":
+            parser.error(f"argument {option}: a file's name is not empty")
         setattr(asked, self.dest, value)
 
 

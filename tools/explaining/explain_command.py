@@ -174,4 +174,4 @@ def main() -> None:
             print(f"{NAME}: can't explain this verdict: {shown(str(error))}. {told} report:\n{shown_lines(report_text(program, trace))}", end="",
                   file=sys.stderr)
             sys.exit(2 if is_passing else judged.status)  # what may be wrong is no pass
-    sys.exit(0 if judged.report and passes(judged.report, asked.weak) else judged.status)
+    sys.exit(0 if judged.report and passes(judged.report, asked.weak) else judged.status or 2)  # without a report nothing passes

@@ -85,7 +85,7 @@ def failed(file: str, seconds: float, status: int, error: str, lines: int = 0) -
 
 
 def row_of(request: Request, file: str, trace: bytes, side: Side, answer: Answer) -> Row:
-    """The row of a trace that has this file beside it, of which the program answered this. One that is known to be cut is failed, whatever
+    """The row of a trace that has this file beside it, of which the program answered this. One that is known not to be what was saved is failed, whatever
     its lines show; and so is one that passes though a call was refused, since what that says was not judged."""
     seconds, status, printed, error = answer
     lines, report = trace.count(b"\n"), report_in(status, printed)
@@ -108,7 +108,7 @@ def row_of(request: Request, file: str, trace: bytes, side: Side, answer: Answer
               weak_alone=is_alone or None)
     if not row.passes and request.is_explained:
         row = row._replace(explanation=explanation_of(row, request, trace, known))
-    if warnings.is_cut:
+    if warnings.is_another:
         left = "" if row.passes else f"; the verdict on the lines that are left is {verdict_of(report)}"
         return row._replace(verdict="failed", k=None, error=warnings.cut[0] + left, unequal=None, weak_alone=None)
     if warnings.refused and row.passes:

@@ -15,12 +15,13 @@ MOST_CHANGES = 3  # that are told one by one of those that a replica lacks, or h
 MOST_BYTES = 64  # of the first line beside a trace that are looked at
 CUT = "the trace may have been cut at a line's end"
 SAVED = " were saved"  # ends what is said of one that is known to be cut
+ANOTHER = " were saved: is that file of another trace?"  # of one that is longer than what was saved
 UNKNOWN = "so nothing says whether the trace is whole"
 NOTHING = "nothing was recorded"
 
 
 class Warnings(NamedTuple):
-    """What the verdict may hide, a line each: that the file lacks lines; that calls were refused; how the replicas end; and all else."""
+    """What the verdict may hide, a line each: that the file is not what was saved; that calls were refused; how the replicas end; and all else."""
 
     cut: list
     ends: list
@@ -28,9 +29,9 @@ class Warnings(NamedTuple):
     refused: list = []
 
     @property
-    def is_cut(self) -> bool:
-        """Whether lines are known to be lost."""
-        return any(told.startswith(CUT) for told in self.cut)
+    def is_another(self) -> bool:
+        """Whether the trace is known not to be the one that was saved: lines were lost, or it is longer."""
+        return any(told.startswith(CUT) or told.endswith(ANOTHER) for told in self.cut)
 
     @property
     def all(self) -> list:
@@ -220,5 +221,5 @@ def cut(trace: bytes, side: Side) -> list:
     if int(said) > lines:
         return [f"{CUT}: it has {lines} lines, and {shown(side.name)} says that {int(said)}{SAVED}"]
     if int(said) < lines:
-        return [f"the trace has {lines} lines, and {shown(side.name)} says that {int(said)} were saved: is that file of another trace?"]
+        return [f"the trace has {lines} lines, and {shown(side.name)} says that {int(said)}{ANOTHER}"]
     return []
