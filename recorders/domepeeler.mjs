@@ -269,6 +269,16 @@ export class Recording {
     return this.#lines.length
   }
 
+  /** That calls were refused, a line each, if what they say was not recorded later. */
+  refusals() {
+    const [open] = [...this.#open.values()].sort((a, b) => a.replica - b.replica || a.author - b.author), calls = this.#refused
+    return [
+      ...(calls === 1 ? [`a call was refused, so what it says is not recorded: ${this.#firstRefused}`] : []),
+      ...(calls > 1 ? [`${calls} calls were refused, so what they say is not recorded; the first: ${this.#firstRefused}`] : []),
+      ...(open ? [`a call was refused, and what it says never came: ${open.words}`] : []),
+    ]
+  }
+
   /** How many inserts and deletes of each replica this one has: the vector clock of an update that it makes now. */
   clock(replica) {
     this.#acts(replica)
@@ -296,7 +306,7 @@ export class Recording {
     const text = this.text(), places = this.#places(await modules())
     const notes = this.#notes.map((note) => `note ${note}`)
     const delivered = this.#delivered.map(([first, last]) => `delivered ${first} ${last}`)
-    const refused = this.#refusals().map((told) => `refused ${told}`)
+    const refused = this.refusals().map((told) => `refused ${told}`)
     const beside = [this.#lines.length, "language javascript", ...notes, ...delivered, ...(this.#hasLog ? ["log"] : []), ...refused,
       ...places.map(([line, told]) => `${line} ${told}`)]
     const there = await stat(name).catch(() => null)
@@ -317,7 +327,7 @@ export class Recording {
   async warnings() {
     if (this.#only !== null) throw new Refused(ONE_LOG)
     const found = hidden(this.#lines), withNearest = this.#nearest(await modules())
-    return [...this.#refusals(), ...found.map(withNearest)]
+    return [...this.refusals(), ...found.map(withNearest)]
   }
 
   /** A promise of the program's report on this recording, and as `warnings` what it may hide where it says `accepted`; with `weak`, where
@@ -325,7 +335,7 @@ export class Recording {
   async judge(program = null, { weak = false } = {}) {
     const report = this.#report(await modules(), program)
     const isPassing = report.verdict === "accepted" || (weak && report.weak === true)
-    return { ...report, warnings: isPassing ? await this.warnings() : this.#refusals() }
+    return { ...report, warnings: isPassing ? await this.warnings() : this.refusals() }
   }
 
   // The program's report on this recording.
@@ -384,7 +394,7 @@ export class Recording {
     const command = besideProgram(node, "domepeeler-explain")
     const delivered = this.#delivered.slice(-MOST_DELIVERED).flatMap(([first, last]) => ["--delivered", `${first}-${last}`])
     const { name, done } = this.#ask(node, explainer, "DOMEPEELER_EXPLAIN", command, "the tool's",
-      [...(weak ? ["--weak"] : []), "--language", "javascript", ...delivered, ...this.#refusals().flatMap((told) => ["--refused", told]), "-"])
+      [...(weak ? ["--weak"] : []), "--language", "javascript", ...delivered, ...this.refusals().flatMap((told) => ["--refused", told]), "-"])
     if ((done.status !== 0 && done.status !== 1) || !done.stdout) throw ended(name, done, "words")
     const words = new Set(done.stdout.match(/[A-Za-z0-9]+/g))
     const named = [...this.ids()].filter(([short]) => words.has(short) && short.startsWith("long"))
@@ -684,16 +694,6 @@ export class Recording {
       this.#refused += 1
       throw why
     }
-  }
-
-  // That calls were refused, a line each, if what they say was not recorded later.
-  #refusals() {
-    const [open] = [...this.#open.values()].sort((a, b) => a.replica - b.replica || a.author - b.author), calls = this.#refused
-    return [
-      ...(calls === 1 ? [`a call was refused, so what it says is not recorded: ${this.#firstRefused}`] : []),
-      ...(calls > 1 ? [`${calls} calls were refused, so what they say is not recorded; the first: ${this.#firstRefused}`] : []),
-      ...(open ? [`a call was refused, and what it says never came: ${open.words}`] : []),
-    ]
   }
 
   // Writes a receipt that may be written.

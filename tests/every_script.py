@@ -49,8 +49,8 @@ PACKAGES = {
     "cargo": "cargo", "clang": "clang", "dpkg-dev": "dpkg-shlibdeps", "emacs-nox": "emacs", "fish": "fish", "g++": "g++", "gcc": "gcc",
     "librust-proptest+std-dev": None, "lintian": "lintian", "man-db": "man", "node-prosemirror-transform": None, "node-yjs": None,
     "nodejs": "node", "npm": "npm", "parallel": "parallel", "python3-hypothesis": None, "python3-pip": None, "python3-pytest": None,
-    "python3-setuptools": None, "python3-venv": None, "python3-wheel": None, "rsync": "rsync", "rust-clippy": "clippy-driver",
-    "rustc": "rustc", "zsh": "zsh",
+    "python3-pytest-xdist": None, "python3-setuptools": None, "python3-venv": None, "python3-wheel": None, "rsync": "rsync",
+    "rust-clippy": "clippy-driver", "rustc": "rustc", "zsh": "zsh",
 }
 
 

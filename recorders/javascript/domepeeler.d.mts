@@ -81,6 +81,9 @@ export class Recording {
   /** How many lines the text has so far: 2 before the first entry. */
   lines(): number
 
+  /** That calls were refused, a line each, if what they say was not recorded later. */
+  refusals(): string[]
+
   /** How many inserts and deletes of each replica this one has: the vector clock of an update that it makes now. */
   clock(replica: number): number[]
 

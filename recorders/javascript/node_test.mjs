@@ -9,10 +9,10 @@
 //     }))
 //
 // Where the recording is not accepted, or nothing was recorded, the test fails, and its error has the explanation and the path of the
-// saved trace. What hooks record behind the body is judged too; what is recorded later still, as by a promise that nobody awaits, fails the
-// process. Where the test fails by itself, its diagnostics have them, of an accepted recording too. Where it passes, the trace that it
-// saved before is removed, and what the verdict may hide stands in its diagnostics. For a property of fast-check or another library, let
-// the property end with: await accepted(recording, "failed.trace")
+// saved trace. What hooks record behind the body is judged too; what is recorded or refused later still, as by a promise that nobody
+// awaits, fails the process. Where the test fails by itself, its diagnostics have them, of an accepted recording too. Where it passes, the
+// trace that it saved before is removed, and what the verdict may hide stands in its diagnostics. For a property of fast-check or another
+// library, let the property end with: await accepted(recording, "failed.trace")
 //
 // With { stop: true } as a last argument of recorded() the test fails in the call that answered wrong, and its error's stack begins there.
 //
@@ -28,12 +28,14 @@ const WEAK_ALONE = "weak holds, strong doesn't"
 const FIRST_LINES = 2 // of each trace: its version, and how many replicas there are
 const named = new Map() // by name of a file: how many tests of this process have had it
 const warned = new Set() // paths of properties of which a recording has hidden something
-const ended = new Map() // by recording: its test, and how many lines it had when it was judged
+const ended = new Map() // by recording: its test, and its state when it was judged
 
 process.on("exit", () => {
-  for (const [recording, { test, lines }] of ended) {
-    if (recording.lines() === lines) continue
-    console.error(`${test}: something was recorded when the test had ended, so it was not judged: is an await missing?`)
+  for (const [recording, { test, state }] of ended) {
+    if (isSame(stateOf(recording), state)) continue
+    const why = recording.lines() === state.lines ? "a call was refused when the test had ended, so what it says was not judged" :
+      "something was recorded when the test had ended, so it was not judged"
+    console.error(`${test}: ${why}: is an await missing?`)
     process.exitCode ||= 1
   }
 })
@@ -56,13 +58,13 @@ export function recorded(replicas, body, { folder = FOLDER, weak = false, stop =
     const path = resolve(folder, fileName(test))
     const tell = (told) => `${test}: ${told}`.split("\n").forEach((line) => context.diagnostic(line)) // TAP shows each as one line
     const judge = async () => {
-      const lines = recording.lines()
+      const state = stateOf(recording)
       ended.delete(recording) // a test that fails has told enough
       const { told, warnings, isAlone } = await judged(recording, path, weak)
       if (told) throw new NotAccepted(told)
       if (isAlone) tell(WEAK_ALONE)
-      if (lines === FIRST_LINES) throw new NotAccepted(warnings.join("\n"))
-      ended.set(recording, { test, lines })
+      if (state.lines === FIRST_LINES) throw new NotAccepted(warnings.join("\n"))
+      ended.set(recording, { test, state })
       warnings.forEach(tell)
       for (const left of [path, `${path}.lines`]) await rm(left, { force: true }).catch(() => {}) // most often there is none
     }
@@ -73,7 +75,7 @@ export function recorded(replicas, body, { folder = FOLDER, weak = false, stop =
       throw why
     }
     await judge()
-    context.after?.(() => recording.lines() === ended.get(recording).lines || judge()) // the last of the hooks
+    context.after?.(() => isSame(stateOf(recording), ended.get(recording).state) || judge()) // the last of the hooks
   }
 }
 
@@ -85,6 +87,15 @@ export async function accepted(recording, path, { weak = false } = {}) {
   if (!warnings.length || warned.has(path)) return
   warned.add(path)
   process.emitWarning(`a recording of ${path} is accepted, and may hide something: ${warnings[0]}`)
+}
+
+// How many lines a recording has, and what is told of calls that were refused.
+function stateOf(recording) {
+  return { lines: recording.lines(), refusals: recording.refusals().join("\n") }
+}
+
+function isSame(one, other) {
+  return one.lines === other.lines && one.refusals === other.refusals
 }
 
 // The verdict on a recording in words, if these aren't known, which is then saved; nothing where it passes, unless its test has failed by

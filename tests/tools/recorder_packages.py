@@ -2,8 +2,8 @@
 """recorder_packages.py PROGRAM: the recorders as packages of Python, JavaScript and Rust, each installed without a registry into an empty
 place, and used there by a test of that language's own runner, which must pass, or fail with an explanation and a saved trace.
 
-Needs node, npm and cargo, and for Debian's Python pip, setuptools, wheel, venv and pytest, which are installed where they are missing. So
-is Debian's proptest; where that can't be, a crate stands in for it."""
+Needs node, npm and cargo, and for Debian's Python pip, setuptools, wheel, venv, pytest and pytest-xdist, which are installed where they
+are missing. So is Debian's proptest; where that can't be, a crate stands in for it."""
 import os
 import re
 import shutil
@@ -21,7 +21,7 @@ RECORDERS = ROOT / "recorders"
 HANDING_ON = RECORDERS / "javascript/domepeeler.mjs"
 DEBIAN_PYTHON = "/usr/bin/python3"
 MODULES = {"pip": "python3-pip", "setuptools": "python3-setuptools", "wheel": "python3-wheel", "venv": "python3-venv",
-           "pytest": "python3-pytest"}
+           "pytest": "python3-pytest", "xdist": "python3-pytest-xdist"}
 CRATES = Path("/usr/share/cargo/registry")  # Debian's
 PROPTEST = "librust-proptest+std-dev"
 
@@ -246,6 +246,64 @@ def test_last(domepeeler, server):
         server.append(domepeeler(1))
         server[1].insert(0, "b", 0, ["b"])
 """
+# A fixture of two tests which, when it is torn down, begins a recording for the first of them.
+BEGINNING = """
+import pytest
+
+kept = []
+
+
+@pytest.fixture(scope="module")
+def server():
+    yield
+    kept[0](1).insert(0, "a", 0, [])
+
+
+def test_first(domepeeler, server):
+    kept.append(domepeeler)
+    domepeeler(1).insert(0, "a", 0, ["a"])
+
+
+def test_last(server):
+    pass
+"""
+
+# Fixtures of which a call is refused when they are torn down: behind the test's own part, and when the test has ended.
+REFUSED = """
+import pytest
+from domepeeler import Refused
+
+
+@pytest.fixture
+def client(domepeeler):
+    recording = domepeeler(1)
+    yield recording
+    with pytest.raises(Refused):
+        recording.read(0, ["a b"])
+
+
+@pytest.fixture(scope="module")
+def server():
+    recordings = []
+    yield recordings
+    with pytest.raises(Refused):
+        recordings[0].read(0, ["a b"])
+
+
+def test_first(domepeeler, server):
+    server.append(domepeeler(1))
+    server[0].insert(0, "a", 0, ["a"])
+
+
+def test_client(client):
+    client.insert(0, "a", 0, ["a"])
+
+
+def test_last(server):
+    pass
+"""
+REFUSAL = "a call was refused, so what it says is not recorded: name "
+
 # A thread that begins to record when its test has ended, and still does when pytest ends; it records what is right.
 RUNNING = """
 import threading
@@ -393,6 +451,24 @@ describe("suite", () => {
 if ("TIMER" in process.env) test("timer", recorded(1, (recording) => {
   recording.insert(0, "a", 0, ["a"])
   setTimeout(() => recording.read(0, []), 300)
+}))
+'''
+
+# Tests of Node of which a call is refused in a hook, or in a timer.
+REFUSED_OF_NODE = '''
+import assert from "node:assert"
+import { test } from "node:test"
+import { Refused } from "domepeeler"
+import { recorded } from "domepeeler/node_test"
+
+const refuse = (recording) => assert.throws(() => recording.read(0, ["a b"]), Refused)
+test("hook", recorded(1, (recording, context) => {
+  context.after(() => refuse(recording))
+  recording.insert(0, "a", 0, ["a"])
+}))
+if ("TIMER" in process.env) test("timer", recorded(1, (recording) => {
+  recording.insert(0, "a", 0, ["a"])
+  setTimeout(() => refuse(recording), 300)
 }))
 '''
 
@@ -968,26 +1044,8 @@ def check_ends_of_pytest(tally: Tally, place: Place, command: list) -> None:
         "begun_late", "fails_and_is_right", "late", "set_up", "torn_down")], traces)
     tally.check("pytest: warns of what an accepted recording may hide", all(f"Unsure: {told}\n" in done.stdout for told in UNSURE),
                 done.stdout)
-    place.make("python/test_later.py", LATER)
-    done = place.run([*command[:-1], "test_later.py"], "python")
-    tally.check("pytest: what is recorded after a test has ended fails the run", done.returncode == 1 and "2 passed" in done.stdout and
-                done.stdout.count("ERROR ") == 1 and "ERROR test_later.py::test_goes_on - domepeeler: something was recorded after" in done.stdout, done.stdout)
-    for scope in "module", "session":
-        place.make("python/test_later.py", WIDER.format(scope=scope, is_last_recorded=False))
-        done = place.run([*command[:-1], "test_later.py"], "python")
-        tally.check(f"pytest: what a fixture of scope {scope} records when it is torn down fails the run", done.returncode == 1 and
-                    re.search(r"^2 passed in ", done.stdout, re.MULTILINE) and done.stdout.count("ERROR ") == 1 and
-                    "ERROR test_later.py::test_first - domepeeler: something was recorded after" in done.stdout, done.stdout)
-        place.make("python/test_later.py", WIDER.format(scope=scope, is_last_recorded=True))
-        done = place.run([*command[:-1], "test_later.py"], "python")
-        tally.check(f"pytest: what it records of the last test, of scope {scope}, is judged", done.returncode == 1 and "2 passed, 1 error" in done.stdout
-                    and "contents 0.2: " in done.stdout.partition("ERROR at teardown of test_last")[2] and done.stdout.count(": something was recorded") == 1,
-                    done.stdout)
-    place.make("python/test_later.py", RUNNING)
-    done = place.run([*command[:-1], "test_later.py"], "python")
-    tally.check("pytest: what a thread records that still runs fails the run", done.returncode == 1 and re.search(r"^2 passed in ", done.stdout, re.MULTILINE)
-                and done.stdout.count("ERROR ") == 1 and "ERROR test_later.py::test_begins - domepeeler: something was recorded after" in done.stdout,
-                done.stdout)
+    for name, more in ("pytest", ["-p", "no:xdist"]), ("pytest-xdist", ["-n", "2", "--dist", "loadfile"]):
+        check_later_of_pytest(tally, place, name, [*command[:-1], *more, "test_later.py"])
     (place.folder / "python/test_later.py").unlink()
     done = place.run([*command, "-k", "unsure", "-W", "error::domepeeler.pytest_plugin.Unsure"], "python")
     tally.check("pytest: such a warning as an error", done.returncode == 1 and "1 passed, 8 deselected, 1 error" in done.stdout
@@ -1004,6 +1062,36 @@ def check_ends_of_pytest(tally: Tally, place: Place, command: list) -> None:
     names = sorted(path.name for path in mine.iterdir())
     tally.check("pytest: a folder that was there is not passed over", names == [f"test_ends.py--test_fails_and_is_right.trace{end}"
                                                                               for end in ("", ".lines")], names)
+
+
+def check_later_of_pytest(tally: Tally, place: Place, name: str, command: list) -> None:
+    """What a recording gets when its test has ended fails the run, whether one process runs the tests or several do."""
+    def run(text: str) -> tuple:
+        place.make("python/test_later.py", text)
+        done = place.run(command, "python")
+        told = re.findall(r"^ERROR test_later\.py::(\w+) - domepeeler: (.*) after the test had ended", done.stdout, re.MULTILINE)
+        return done.returncode == 1, done.stdout, told
+
+    def check(what: str, text: str, counts: str, *wanted: tuple) -> str:
+        has_failed, said, told = run(text)
+        tally.check(f"{name}: {what}", has_failed and re.search(rf"^{counts} in ", said, re.MULTILINE) and told == list(wanted) and
+                    said.count("ERROR ") == len(wanted), said)
+        return said
+
+    recorded = "something was recorded"
+    check("what is recorded after a test has ended fails the run", LATER, "2 passed", ("test_goes_on", recorded))
+    for scope in "module", "session":
+        check(f"what a fixture of scope {scope} records when it is torn down fails the run", WIDER.format(scope=scope, is_last_recorded=False),
+              "2 passed", ("test_first", recorded))
+        has_failed, said, told = run(WIDER.format(scope=scope, is_last_recorded=True))
+        tally.check(f"{name}: what it records of the last test, of scope {scope}, is judged", has_failed and "2 passed, 1 error" in said and
+                    "contents 0.2: " in said.partition("ERROR at teardown of test_last")[2] and told == [("test_first", recorded)], said)
+    check("what a thread records that still runs fails the run", RUNNING, "2 passed", ("test_begins", recorded))
+    check("a recording that is begun when its test has ended fails the run", BEGINNING, "2 passed", ("test_first", "a recording was begun"))
+    said = check("a call that is refused when its test has ended fails the run", REFUSED, "3 passed, 1 warning",
+                 ("test_first", "a call was refused"))
+    tally.check(f"{name}: warns of a call that is refused in a teardown", said.count(f"Unsure: {REFUSAL}") == 1 and
+                "test_client" in said.partition("warnings summary")[2], said)
 
 
 def check_weak_of_pytest(tally: Tally, place: Place, command: list) -> None:
@@ -1167,6 +1255,14 @@ def check_ends_of_node(tally: Tally, place: Place) -> None:
     done = place.run(words_late, "packed", TIMER="1")
     tally.check("node --test: what is recorded later still is told of", done.returncode == 1 and "ok 3 - timer" in done.stdout and
                 "timer: something was recorded when the test had ended, so it was not judged" in done.stdout, done.stdout)
+    place.make("packed/refused.test.mjs", REFUSED_OF_NODE)
+    words_refused = [*words[:-1], "refused.test.mjs"]
+    done = place.run(words_refused, "packed")
+    tally.check("node --test: warns of a call that is refused in a hook", done.returncode == 0 and "ok 1 - hook\n" in done.stdout and
+                done.stdout.count(f"# hook: {REFUSAL}") == 1, done.stdout)
+    done = place.run(words_refused, "packed", TIMER="1")
+    tally.check("node --test: a call that is refused later still is told of", done.returncode == 1 and "ok 2 - timer" in done.stdout and
+                "timer: a call was refused when the test had ended, so what it says was not judged" in done.stdout, done.stdout)
     broken = str(place.folder / "broken")
     for script, why in BROKEN:
         place.make("broken", f"#!/bin/sh\n{script}\n", 0o755)

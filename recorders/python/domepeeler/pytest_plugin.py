@@ -13,7 +13,8 @@ Where a recording is not accepted the test fails, and its report has the explana
 fixtures record while they are torn down is judged too, when that is done; pytest tells it as an error of the test. The report of a
 test that fails by itself has the verdict on its recordings, accepted or not, in a section of its own, and they are saved. Where a test
 passes, the traces that it saved before are removed; and of what its accepted recordings may hide pytest warns, by `Unsure`. What is
-recorded later still, as by a thread or a wider fixture, nothing has judged: it fails the run, if it comes before pytest has ended."""
+recorded, refused or begun later still, as by a thread or a wider fixture, nothing has judged: it fails the run, if it comes before pytest
+has ended, or the worker of pytest-xdist that ran the test."""
 from __future__ import annotations
 
 import contextlib
@@ -32,7 +33,11 @@ PLAIN = re.compile(r"[A-Za-z0-9_.]+(/[A-Za-z0-9_.]+)*(::[A-Za-z0-9_.]+)+", re.AS
 MOST_LETTERS = 150  # of a test's own name in the name of a file
 BEGUN = "_domepeeler_begun"
 WEAK_ALONE = "weak holds, strong doesn't"
-ENDED, GROWN = "_domepeeler_ended", "_domepeeler_grown"  # recordings of tests that have ended; tests whose recordings grew since
+ENDED, GROWN = "_domepeeler_ended", "_domepeeler_grown"  # recordings of tests that have ended; what is told of those that grew since
+RECORDED_LATE = "domepeeler: something was recorded after the test had ended, so it was not judged"
+REFUSED_LATE = "domepeeler: a call was refused after the test had ended, so what it says was not judged"
+BEGUN_LATE = "domepeeler: a recording was begun after the test had ended, so it was not judged"
+State = Tuple[int, List[str]]  # of a recording: how many lines it has, and what is told of calls that were refused
 FIRST_LINES = 2  # of each trace: its version, and how many replicas there are
 
 
@@ -45,23 +50,25 @@ class NothingRecorded(Unsure):
 
 
 class Judged:
-    """A recording of a test, and whether weak alone is asked of it; how many lines it had when it was judged; and of what its verdict then
+    """A recording of a test, and whether weak alone is asked of it; its state when it was judged, if it was; and of what its verdict then
     warned, and whether it passed since weak holds, though strong doesn't."""
 
     def __init__(self, recording: Recording, weak: bool) -> None:
         self.recording = recording
         self.weak = weak
-        self.lines = 0
+        self.state: Optional[State] = None
         self.warnings: List[str] = []
         self.is_weak_alone = False
 
 
 class Begun:
-    """The recordings of a test of which nothing is told yet; and whether the test has passed so far, and they are accepted."""
+    """The recordings of a test of which nothing is told yet; whether the test has passed so far, and they are accepted; and whether it has
+    ended, so that nothing judges what begins now."""
 
     def __init__(self) -> None:
         self.recordings: List[Judged] = []
         self.has_passed = False
+        self.has_ended = False
 
     def numbered(self) -> List[Tuple[Optional[int], Judged]]:
         """The recordings with their numbers; a single one has none."""
@@ -81,8 +88,12 @@ def domepeeler(request: pytest.FixtureRequest) -> Callable[..., Recording]:
     setattr(request.node, BEGUN, begun)
 
     def begin(replicas: int, weak: bool = False, stop: bool = False) -> Recording:
-        begun.recordings.append(Judged(Recording(replicas, stop=stop, weak=weak and stop), weak))
-        return begun.recordings[-1].recording
+        one = Judged(Recording(replicas, stop=stop, weak=weak and stop), weak)
+        if begun.has_ended:
+            watch(request.config, request.node.nodeid, [one])
+        else:
+            begun.recordings.append(one)
+        return one.recording
 
     return begin
 
@@ -106,25 +117,48 @@ def pytest_runtest_teardown(item: pytest.Item) -> None:
     try:
         for one in begun.recordings:
             for told in one.warnings:
-                item.warn(NothingRecorded(told) if one.lines == FIRST_LINES else Unsure(told))
+                item.warn(NothingRecorded(told) if one.state and one.state[0] == FIRST_LINES else Unsure(told))
     except Unsure as why:  # where warnings are errors
         pytest.fail(f"{type(why).__name__}: {why}", pytrace=False)
-    if not hasattr(item.config, ENDED):
-        setattr(item.config, ENDED, [])
-    getattr(item.config, ENDED).extend((item.nodeid, one.recording, one.lines) for one in begun.recordings)
+    begun.has_ended = True
+    watch(item.config, item.nodeid, begun.recordings)
     begun.recordings = []
 
 
+def watch(config: pytest.Config, test: str, recordings: List[Judged]) -> None:
+    """From now on nothing judges these recordings of a test; what they get is told of when pytest ends."""
+    if not hasattr(config, ENDED):
+        setattr(config, ENDED, [])
+    getattr(config, ENDED).extend((test, one) for one in recordings)
+
+
+def grown(test: str, one: Judged) -> List[str]:
+    """What is told of a recording that has got something since it was judged, or never was."""
+    state = state_of(one.recording)
+    if state == one.state:
+        return []
+    return [f"{test} - {BEGUN_LATE if one.state is None else RECORDED_LATE if state[0] != one.state[0] else REFUSED_LATE}"]
+
+
 def pytest_sessionfinish(session: pytest.Session) -> None:
-    grown = [name for name, recording, lines in getattr(session.config, ENDED, []) if recording.lines() != lines]
-    setattr(session.config, GROWN, grown)
-    if grown and session.exitstatus == pytest.ExitCode.OK:
+    config = session.config
+    told = getattr(config, GROWN, []) + [line for test, one in getattr(config, ENDED, []) for line in grown(test, one)]
+    setattr(config, GROWN, told)
+    if hasattr(config, "workeroutput"):  # a worker of pytest-xdist, whose status and summary nobody sees
+        config.workeroutput[GROWN] = told
+    if told and session.exitstatus == pytest.ExitCode.OK:
         session.exitstatus = pytest.ExitCode.TESTS_FAILED
 
 
+@pytest.hookimpl(optionalhook=True)  # of pytest-xdist, where it is installed
+def pytest_testnodedown(node: Any, error: Any) -> None:
+    if not error:
+        setattr(node.config, GROWN, getattr(node.config, GROWN, []) + node.workeroutput.get(GROWN, []))
+
+
 def pytest_terminal_summary(terminalreporter: Any, config: pytest.Config) -> None:
-    for name in getattr(config, GROWN, []):
-        terminalreporter.write_line(f"ERROR {name} - domepeeler: something was recorded after the test had ended, so it was not judged", red=True)
+    for told in getattr(config, GROWN, []):
+        terminalreporter.write_line(f"ERROR {told}", red=True)
 
 
 @pytest.hookimpl(hookwrapper=True, tryfirst=True)  # when all others have said whether it has failed
@@ -136,20 +170,27 @@ def pytest_runtest_makereport(item: pytest.Item, call: pytest.CallInfo[None]) ->
         told = [told_of(item, one, number, True, known) for number, one in begun.numbered()]
         report.sections.append(("Domepeeler", "\n\n".join(told)))
         begun.recordings = []
+    if call.when == "teardown":  # of a test that has failed, or was skipped, too
+        begun.has_ended = True
 
 
 def fail_by_faults(item: pytest.Item, begun: Begun) -> None:
-    """Fails the test where a recording to which something was added since it was judged is not accepted."""
-    told = [told_of(item, one, number, False) for number, one in begun.numbered() if one.lines != one.recording.lines()]
+    """Fails the test where a recording is not accepted to which something was added, or of which a call was refused, since it was judged."""
+    told = [told_of(item, one, number, False) for number, one in begun.numbered() if one.state != state_of(one.recording)]
     if any(told):
         begun.recordings = []
         pytest.fail("\n\n".join(filter(None, told)), pytrace=False)
 
 
+def state_of(recording: Recording) -> State:
+    with recording._lock:
+        return recording.lines(), recording._refusals()
+
+
 def told_of(item: pytest.Item, one: Judged, number: Optional[int], has_failed: bool, known: str = "") -> str:
     """The verdict on a recording in words, if these aren't known, which is then saved; nothing where it is accepted, unless its test has
     failed by itself."""
-    one.lines = one.recording.lines()
+    one.state = state_of(one.recording)
     try:
         report = one.recording.judge(weak=one.weak)
         one.warnings = report["warnings"]
