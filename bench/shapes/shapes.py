@@ -6,6 +6,8 @@ backring COUNT VIEWS         a ring of COUNT elements, at most 16,000, and 700 e
 report WRITERS EACH VIEWS    WRITERS replicas insert EACH elements; each step of a ring is shown in a view of all these before its two, by
                              VIEWS views of each replica that is left
 peel CHAIN CYCLES            CYCLES cycles of two before one element, and a chain of CHAIN elements behind it, which ends at the least one
+cliff WRITERS EACH PHASES K  WRITERS replicas insert EACH elements in each phase, which another shows in front of those of the phase before;
+                             beside them a ring of K elements, numbered last: each row of its certificate is long
 jump WRITERS EACH PHASES K VIEWS    as front.py has it, and each replica that is left shows every other element VIEWS times in each phase
 
 Standard error tells how near the limits it comes."""
@@ -143,6 +145,38 @@ def peel(session, chain, cycles):
     session.view(viewer, [last[0], end])
 
 
+def cliff(session, writers, each, phases, k):
+    viewer, even, odd, first_owner, watcher = range(writers, writers + 5)
+    live, before, made = [[] for _ in range(writers)], [], 0
+    for _ in range(phases):
+        new = []
+        for writer in range(writers):
+            for i in range(each):
+                live[writer].insert(each if before else 0, name(made))
+                session.insert(writer, name(made), live[writer].index(name(made)), live[writer])
+                new.insert(len(new) - i, name(made))
+                made += 1
+        for writer in range(writers):
+            session.receive(viewer, writer)
+        session.view(viewer, before + new)
+        for writer in range(writers) if before else ():
+            for _ in range(each):
+                session.delete(writer, live[writer].pop(0), live[writer])
+        before = new
+    session.insert(first_owner, "r.", 0, ["r."])
+    session.receive(watcher, first_owner)
+    last, owner = "r.", first_owner
+    for i in range(1, k):
+        writer, element = (even, odd)[i % 2], f"r.{i}"
+        session.insert(writer, element, 0, [element])
+        session.receive(watcher, writer)
+        session.view(watcher, [last, element])
+        if owner != first_owner:
+            session.delete(owner, last, [])
+        last, owner = element, writer
+    session.view(watcher, [last, "r."])
+
+
 def jump(session, writers, each, phases, k, views):
     members, viewers = range(writers, writers + k), range(writers + k - 1, REPLICAS)
     ring = [f"c.{i}" for i in range(k)]
@@ -178,5 +212,5 @@ def jump(session, writers, each, phases, k, views):
 
 
 made = Session()
-{"backring": backring, "report": report, "peel": peel, "jump": jump}[sys.argv[1]](made, *map(int, sys.argv[2:]))
+{"backring": backring, "report": report, "peel": peel, "cliff": cliff, "jump": jump}[sys.argv[1]](made, *map(int, sys.argv[2:]))
 made.print()
