@@ -1384,7 +1384,10 @@ def record_ended(tally: Tally, program: str, folder: str) -> None:
                       "    names = insert = delete = apply = len\n")
     temporary = Path(folder, "temporary")
     temporary.mkdir()
-    for words, what in (["list_crdt", str(slow)], "the program"), ([str(engine), program], "the engine"):
+    loaded = Path(folder, "slowly_loaded.py")
+    loaded.write_text("import subprocess, time\n\nstarted = subprocess.Popen(['sleep', '60'])\n"
+                      f"open({str(begun)!r}, 'a').write(f'{{started.pid}}\\n')\ntime.sleep(60)\n")
+    for words, what in (["list_crdt", str(slow)], "the program"), ([str(engine), program], "the engine"), ([str(loaded), program], "a loaded module"):
         for stop in signal.SIGINT, signal.SIGTERM, signal.SIGHUP:
             begun.write_text("")
             running = subprocess.Popen([RECORD, *words, "--sessions", "20"], stdout=subprocess.PIPE, stderr=subprocess.PIPE,
