@@ -56,7 +56,8 @@ def fail(words: str) -> NoReturn:
 
 
 class Stopped(BaseException):
-    """A signal that stops it, and the programs that judge meanwhile. While the main thread begins one, a signal waits: nobody could end that."""
+    """A signal that stops it, and the programs that judge meanwhile. While the main thread begins one, a signal waits: nobody could end that. Nor
+    would a thread end whose lock the main thread has left held."""
 
     by, judging, is_beginning = 0, set(), False
 
@@ -374,7 +375,7 @@ def verdict(judge: Judge, trace: Optional[str], plan: Plan) -> str:
 
 
 class Beginning:
-    """While the main thread, which alone hears signals, begins a process, a signal waits."""
+    """While the main thread, which alone hears signals, begins a process or holds the locks of its threads, a signal waits."""
 
     def __enter__(self) -> None:
         self.hears = threading.current_thread() is threading.main_thread()
@@ -525,9 +526,13 @@ def tried(kind: sessions.Kind, count: int, rnd: random.Random, driver: Driver, j
     traces = [of_session(plan.session, driver.trace, plan.text()) for plan in plans]
     with ThreadPoolExecutor(JUDGES) as pool:
         try:
-            waiting = [pool.submit(of_session, plan.session, verdict, judge, trace, plan) for trace, plan in zip(traces, plans)]
-            while wait(waiting, SECONDS, FIRST_EXCEPTION).not_done and not any(one.done() and one.exception() for one in waiting):
-                pass  # a signal that another thread has got is heard now
+            with Beginning():
+                waiting = [pool.submit(of_session, plan.session, verdict, judge, trace, plan) for trace, plan in zip(traces, plans)]
+                while (wait(waiting, SECONDS, FIRST_EXCEPTION).not_done and not Stopped.by
+                       and not any(one.done() and one.exception() for one in waiting)):
+                    pass  # a signal that another thread has got is heard now
+            if Stopped.by:
+                raise Stopped(Stopped.by)
             verdicts = [one.result() for one in waiting]
         except BaseException:
             pool.shutdown(wait=False, cancel_futures=True)
