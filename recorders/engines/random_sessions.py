@@ -20,7 +20,7 @@ sys.path.insert(1, str(Path(__file__).resolve().parent.parent))
 
 import sessions
 from merge import shown
-from sessions import Plan, Session, smaller
+from sessions import DELETE, INSERT, READ, Plan, Session, smaller
 
 HERE = Path(__file__).resolve().parent
 STOPPED = "no answer of the engine"
@@ -56,7 +56,8 @@ def fail(words: str) -> NoReturn:
 
 
 class Stopped(BaseException):
-    """A signal that stops it, and the programs that judge meanwhile. While the main thread begins one, a signal waits: nobody could end that."""
+    """A signal that stops it, and the programs that judge meanwhile. While the main thread begins one, a signal waits: nobody could end that. Nor
+    would a thread end whose lock the main thread has left held."""
 
     by, judging, is_beginning = 0, set(), False
 
@@ -173,13 +174,29 @@ def command_of(word: str) -> list:
 def module_engine(word: str) -> Engine:
     module = os.path.abspath(word)
     try:
-        tried = subprocess.run([sys.executable, HERE / "own_engine.py", module], stdin=subprocess.DEVNULL, capture_output=True, text=True,
-                               errors="surrogateescape", timeout=BEGIN)
+        status, errors = loaded(module)
     except subprocess.TimeoutExpired:
         fail(f"{word} was not loaded within {BEGIN} seconds")
-    if tried.returncode:
-        fail((tried.stderr.strip().splitlines() or [f"{word} ended with status {tried.returncode}"])[-1])
+    if status:
+        fail((errors.strip().splitlines() or [f"{word} ended with status {status}"])[-1])
     return Engine([], [sys.executable, "{here}/own_engine.py", module.replace("{", "{{").replace("}", "}}")], ALL, OWN_COUNT)
+
+
+def loaded(module: str) -> tuple:
+    """With which status a process ends that loads the module, and what it writes on standard error. What the module has started ends too."""
+    process = None
+    try:
+        with Beginning():
+            process = subprocess.Popen([sys.executable, HERE / "own_engine.py", module], stdin=subprocess.DEVNULL, stdout=subprocess.PIPE,
+                                       stderr=subprocess.PIPE, text=True, errors="surrogateescape", start_new_session=True)
+        if Stopped.by:  # meanwhile
+            raise Stopped(Stopped.by)
+        _, errors = process.communicate(timeout=BEGIN)
+        return process.returncode, errors
+    finally:
+        if process is not None:
+            with process:
+                kill_group(process)
 
 
 def installed(package: str) -> bool:
@@ -273,10 +290,7 @@ class Driver:
 
     def kill(self) -> None:
         """Ends the engine, and what it has started."""
-        try:
-            os.killpg(self.process.pid, signal.SIGKILL)
-        except ProcessLookupError:
-            pass
+        kill_group(self.process)
 
     def close(self) -> None:
         if self.process:
@@ -285,6 +299,14 @@ class Driver:
             self.process.stdin.close()
             self.process.stdout.close()
             self.process = None
+
+
+def kill_group(process: subprocess.Popen) -> None:
+    """Ends a process that began a session, and what it has started."""
+    try:
+        os.killpg(process.pid, signal.SIGKILL)
+    except ProcessLookupError:
+        pass
 
 
 def counted(count: int, what: str) -> str:
@@ -346,12 +368,14 @@ def verdict(judge: Judge, trace: Optional[str], plan: Plan) -> str:
         fail(f"{judge.program} ended with status {done.returncode}, and with a report that is not on the recording")
     check_is_of(plan, trace)
     if judge.weak and word == "refused" and "weak yes" in report:
-        return WEAK_ALONE
+        word, rest = WEAK_ALONE, []
+    if word in (ACCEPTED, WEAK_ALONE):
+        check_places(plan, trace)
     return f"{word} {rest[0]}" if word == "refused" else word
 
 
 class Beginning:
-    """While the main thread, which alone hears signals, begins a process, a signal waits."""
+    """While the main thread, which alone hears signals, begins a process or holds the locks of its threads, a signal waits."""
 
     def __enter__(self) -> None:
         self.hears = threading.current_thread() is threading.main_thread()
@@ -387,7 +411,7 @@ def judged(program: str, trace: str) -> subprocess.CompletedProcess:
 
 
 def check_is_of(plan: Plan, trace: str) -> None:
-    """A trace has an operation for each that the plan asks for, of all replicas but a server that keeps no list."""
+    """A trace has the operations that the plan asks for, of all replicas but a server that keeps no list."""
     replicas = int(trace.split("\n")[1].split(" ")[1])
     if replicas != plan.session.replicas and not (replicas == plan.session.replicas - 1 and plan.is_last_a_server()):
         raise NoAnswer(NONSENSE, f"its answer has {counted(replicas, 'replica')}, and the plan {plan.session.replicas}")
@@ -396,6 +420,67 @@ def check_is_of(plan: Plan, trace: str) -> None:
         if did[replica] < plan.did[replica]:
             many = counted(did[replica], "operation")
             raise NoAnswer(NONSENSE, f"its answer has {many} of replica {replica}, and the plan {plan.did[replica]}")
+    for replica in range(replicas):
+        check_operations(plan.asked(replica), [line for line in operations(trace) if line.startswith(f"{replica} ")])
+
+
+def check_operations(asked: list, answered: list) -> None:
+    """The operations of a replica are those asked for, in this order, among others that read. What names an element that the list has not is
+    answered by a read, which shows that; no change is asked for twice."""
+    at = 0  # of the answered ones, those that are used up
+    for line in asked:
+        change = changed(line)
+        next_change = next((place for place in range(at, len(answered)) if changed(answered[place])), len(answered))
+        if change and next_change < len(answered) and changed(answered[next_change]) == change:
+            at = next_change + 1
+            continue
+        read = next((place for place in range(at, next_change) if is_read_for(line, answered[place])), None)
+        if read is None:
+            raise nonsense(line, answered[at:at + 1])
+        at = read + 1
+    for line in filter(changed, answered[at:]):
+        raise NoAnswer(NONSENSE, f"its answer has {quoted_whole(line)}, which the plan does not ask for")
+
+
+def changed(line: str) -> Optional[tuple]:
+    """Which change a line of a plan or of a trace is, with its element; none where it reads."""
+    words = line.split(" ")
+    return (words[1], words[2]) if words[1] in (INSERT, DELETE) else None
+
+
+def is_read_for(asked: str, answered: str) -> bool:
+    """Whether the answer, which changes nothing, is right for what is asked: a read, or what can't be done in the list that it shows."""
+    if not changed(asked):
+        return True
+    words, (head, _, names) = asked.split(" "), answered.partition(" :")
+    return head.endswith(f" {READ}") and "at" not in words[3:4] and words[-1] not in names.split(" ")
+
+
+def check_places(plan: Plan, trace: str) -> None:
+    """Each insert of a trace that passes stands where the plan asks for it: its list is known to hold what it had, and the new element."""
+    inserts = {changed(line): line for replica in range(plan.session.replicas) for line in plan.asked(replica)}
+    for line in operations(trace):
+        change = changed(line)
+        if change and change[0] == INSERT and int(line.split(" ")[3]) != asked_place(inserts[change], line):
+            raise nonsense(inserts[change], [line])
+
+
+def asked_place(asked: str, answered: str) -> Optional[int]:
+    """The position that an insert of a plan has in the list of its answer; none where it must read instead."""
+    _, _, name, where, beside = asked.split(" ")
+    others = [one for one in answered.partition(" :")[2].split(" ")[1:] if one != name]
+    if where == "at":
+        return min(int(beside), len(others))
+    return others.index(beside) + (where == "after") if beside in others else None
+
+
+def nonsense(asked: str, answered: list) -> NoAnswer:
+    said = quoted_whole(answered[0]) if answered else "missing"
+    return NoAnswer(NONSENSE, f"its answer to `{asked}` is {said}")
+
+
+def quoted_whole(line: str) -> str:
+    return quoted(f"{line}\n".encode())
 
 
 def operations(trace: str) -> list:
@@ -441,9 +526,13 @@ def tried(kind: sessions.Kind, count: int, rnd: random.Random, driver: Driver, j
     traces = [of_session(plan.session, driver.trace, plan.text()) for plan in plans]
     with ThreadPoolExecutor(JUDGES) as pool:
         try:
-            waiting = [pool.submit(of_session, plan.session, verdict, judge, trace, plan) for trace, plan in zip(traces, plans)]
-            while wait(waiting, SECONDS, FIRST_EXCEPTION).not_done and not any(one.done() and one.exception() for one in waiting):
-                pass  # a signal that another thread has got is heard now
+            with Beginning():
+                waiting = [pool.submit(of_session, plan.session, verdict, judge, trace, plan) for trace, plan in zip(traces, plans)]
+                while (wait(waiting, SECONDS, FIRST_EXCEPTION).not_done and not Stopped.by
+                       and not any(one.done() and one.exception() for one in waiting)):
+                    pass  # a signal that another thread has got is heard now
+            if Stopped.by:
+                raise Stopped(Stopped.by)
             verdicts = [one.result() for one in waiting]
         except BaseException:
             pool.shutdown(wait=False, cancel_futures=True)

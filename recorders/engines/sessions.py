@@ -120,6 +120,10 @@ class Plan:
     def text(self) -> str:
         return "\n".join([*self.lines, "end"]) + "\n"
 
+    def asked(self, replica: int) -> list:
+        """The lines of the replica's operations, in their order."""
+        return [line for line in self.lines[1:] if line.split(" ")[0] == str(replica) and line.split(" ")[1] != TAKE]
+
     def is_last_a_server(self) -> bool:
         """Whether the last replica neither inserts nor deletes: it may be a server that keeps no list."""
         return all(kind == READ for (author, _), (kind, _) in self.changes.items() if author == self.session.replicas - 1)

@@ -1,7 +1,7 @@
 #!/usr/bin/env python3
 """engines.py PROGRAM: engines in any language that `recorders/engines/record.py` asks for sessions, by docs/engines.md: the examples in C
-and Rust, bugs planted in them, and engines that do not answer; Jupiter, where weak is enough; and ProseMirror and Yjs, as Debian packs
-them.
+and Rust, bugs planted in them, engines that do not answer, and those that answer something else; Jupiter, where weak is enough; and
+ProseMirror and Yjs, as Debian packs them.
 
 What is expected was written by hand from docs/engines.md."""
 import os
@@ -83,43 +83,78 @@ WRONG = [
           "its answer has 16 replicas, and the plan 1"),
 ]
 
-# An engine that applies nothing of others, and writes no receipt.
+# An engine that applies nothing of others, and writes no receipt. What it answers to an operation may be another text.
+ANSWER = """change(words, names) or read(words, names)"""
 ALONE = """
 import sys
+
+
+def change(words, names):
+    replica, kind, name, *place = words + [""] * (len(words) == 2)
+    if kind == "ins" and (place[0] == "at" or place[1] in names):
+        position = min(int(place[1]), len(names)) if place[0] == "at" else names.index(place[1]) + (place[0] == "after")
+        names.insert(position, name)
+        return " ".join([replica, "ins", name, str(position), ":", *names])
+    if kind == "del" and name in names:
+        names.remove(name)
+        return " ".join([replica, "del", name, ":", *names])
+
+
+def read(words, names):
+    return " ".join([words[0], "read :", *names])
+
 
 for line in sys.stdin:
     words = line.split()
     if words[0] == "plan":
         lists = [[] for _ in range(int(words[1]))]
-        print("trace 1")
+        print("trace 2")
         print("replicas", words[1])
     elif words[0] == "end":
         print("end", flush=True)
     elif words[1] != "take":
         names = lists[int(words[0])]
-        if words[1] == "ins":
-            names.append(words[2])
-            print(words[0], "ins", words[2], len(names) - 1, ":", *names)
-        else:
-            print(words[0], "read :", *names)
+        print(ANSWER)
 """
 
-# An engine that answers any plan with a cycle of three, of which weak alone holds, and then reads on; its replicas end with different lists.
-CYCLE = """
+# Engines that answer other operations than those asked for: what `ALONE` answers instead, and what is said of it, with the elements numbered
+# as they come there.
+OTHER = {
+    "only reads": ("read(words, names)", "its answer to `0 ins e0 at 0` is `0 read :`"),
+    "only views": ("read(words, names).replace('read', 'view')", "its answer to `0 ins e0 at 0` is `0 view :`"),
+    "another name": ("change([words[0], 'ins', 'x' + words[2], *words[3:]] if words[1] == 'ins' else words, names) or read(words, names)",
+                     "its answer to `0 ins e0 at 0` is `0 ins xe0 0 : xe0`"),
+    "no deletes": ("read(words, names) if words[1] == 'del' else change(words, names) or read(words, names)",
+                   "its answer to `0 del e0` is `0 read : e0`"),
+    "deletes another": ("change([words[0], 'del', names[0]] if words[1] == 'del' and names else words, names) or read(words, names)",
+                        "its answer to `0 del e0` is `0 del e1 :`"),
+    "at the end": ("change([*words[:3], 'at', '4096'] if words[1] == 'ins' else words, names) or read(words, names)",
+                   "its answer to `0 ins e0 after e1` is `0 ins e0 2 : e1 e2 e0`"),
+    "another side": ("change([word.replace('after', 'before') for word in words], names) or read(words, names)",
+                     "its answer to `0 ins e0 after e1` is `0 ins e0 0 : e0 e1`"),
+    "beside what is missing": ("change(words, names) or change([*words[:3], 'at', '0'], names) if words[1] == 'ins' else change(words, names) "
+                               "or read(words, names)", "its answer to `1 ins e0 after e1` is `1 ins e0 0 : e0`"),
+    "an insert too many": ("(change(words, names) or read(words, names)) + '\\n' + change([words[0], 'ins', 'x' + words[2], 'at', '0'], names) "
+                           "if words[1] == 'ins' else change(words, names) or read(words, names)",
+                           "its answer has `0 ins xe0 0 : xe0 e0`, which the plan does not ask for"),
+}
+
+# An engine of which replica 0 takes nothing in the end.
+DEAF = """
+import subprocess
 import sys
 
-CYCLE = "0 ins x 0 : x|1 recv 0 1|2 recv 0 1|1 ins a 0 : a x|2 ins b 1 : x b|0 del x :|0 recv 1 1|0 recv 2 1|0 read : b a"
-for line in sys.stdin:
-    words = line.split()
-    if words[0] == "plan":
-        counts = [0] * int(words[1])
-    elif words[0] != "end":
-        counts[int(words[0])] += words[1] != "take"
-    else:
-        print("trace 1", f"replicas {len(counts)}", *CYCLE.split("|"), sep="\\n")
-        for replica, count in enumerate(counts):
-            print(f"{replica} read :{[' b a', ' a x', ' x b', '', '', ''][replica]}\\n" * count, end="")
-        print("end", flush=True)
+with subprocess.Popen(sys.argv[1:], stdin=subprocess.PIPE, stdout=subprocess.PIPE, text=True) as engine:
+    plan = []
+    for line in sys.stdin:
+        plan.append(line)
+        if line == "end\\n":
+            last = max((place for place, asked in enumerate(plan) if asked.startswith("0 take ")), default=len(plan))
+            print(*plan[:last], *plan[last + 1:], sep="", end="", file=engine.stdin, flush=True)
+            plan = []
+            while (answered := engine.stdout.readline()) not in ("end\\n", ""):
+                print(answered, end="")
+            print(answered, end="", flush=True)
 """
 
 # ProseMirror's recordings in the gallery: the plan of each, and lines that its explanation has one after the other.
@@ -226,12 +261,13 @@ def servers(tally: Tally, program: str, folder: str) -> None:
     tally.check("server: a replica that does something is left out", done.returncode == 2 and done.stderr.count("\n") == 1
                 and re.search(r": its answer has \d+ replicas?, and the plan \d+$|: it ended with status \d+ before the", done.stderr), done)
     alone = Path(folder, "alone.py")
-    alone.write_text(ALONE)
-    done = record(f"{sys.executable} {alone}", program, "--sessions", "5")
-    said = counted(done.stdout)
-    tally.check("unequal: is no pass", done.returncode == 1 and list(said) == KINDS
-                and all("accepted, unequal: " in one for one in said.values())
-                and "\nall was exchanged, and the replicas end with different lists: " in done.stdout, done.stdout[:2000])
+    for answer, what in (ANSWER, "is no pass"), (f"read(words, names), {ANSWER}, read(words, names), sep='\\n'", "reads more often"):
+        alone.write_text(ALONE.replace("ANSWER", answer))
+        done = record(f"{sys.executable} {alone}", program, "--sessions", "5")
+        said = counted(done.stdout)
+        tally.check(f"unequal: {what}", done.returncode == 1 and list(said) == KINDS
+                    and all("accepted, unequal: " in one for one in said.values())
+                    and "\nall was exchanged, and the replicas end with different lists: " in done.stdout, (done.stdout[:2000], done.stderr))
 
 
 def weak(tally: Tally, program: str, folder: str) -> None:
@@ -258,12 +294,12 @@ def weak(tally: Tally, program: str, folder: str) -> None:
     verdicts = [explain(program, "--weak", path).split(" ")[:2] for path in small]
     tally.check("weak: and made small, as it fails so too", len(small) == done.stdout.count("the smallest found of ") > 0 and all(
         first == "contents" or [first, second] == ["refused", "2:"] for first, second in verdicts), verdicts)
-    cycle = Path(folder, "cycle.py")
-    cycle.write_text(CYCLE)
-    done = record(f"{sys.executable} {cycle}", program, "--server", "--sessions", "5", "--weak")
+    deaf = Path(folder, "deaf.py")
+    deaf.write_text(DEAF)
+    done = record(f"{sys.executable} {deaf} {engine} none", program, *asked, "--weak")
     said = counted(done.stdout)
     tally.check("weak: unequal is no pass", done.returncode == 1 and list(said) == SERVER_KINDS
-                and all(re.fullmatch(r"weak alone, unequal: \d+", one) for one in said.values())
+                and said[SERVER_KINDS[-1]] == "weak alone, unequal: 1" and "refused" not in done.stdout
                 and "\nall was exchanged, and the replicas end with different lists: " in done.stdout, done)
 
 
@@ -303,6 +339,26 @@ def errors(tally: Tally, program: str, folder: str) -> None:
                     and done.stderr.endswith(" and no command that can be run\n") and not done.stdout, done)
     running = subprocess.run(["ps", "-eo", "args"], capture_output=True, text=True).stdout
     tally.check("no engine is left", folder not in running and "sleep 60.0625" not in running.splitlines(), running)
+
+
+def run_other(name: str, program: str, folder: str) -> subprocess.CompletedProcess:
+    engine = Path(folder, f"{name}.py")
+    engine.write_text(ALONE.replace("ANSWER", OTHER[name][0]))
+    return record(f"{sys.executable} '{engine}'", program, "--sessions", "20")
+
+
+def others(tally: Tally, program: str, folder: str) -> None:
+    """An engine whose answer is not of the plan is an error, which names what was asked for and what was answered."""
+    with ThreadPoolExecutor(AT_A_TIME) as pool:
+        runs = list(pool.map(lambda name: run_other(name, program, folder), OTHER))
+    for (name, (_, words)), done in zip(OTHER.items(), runs):
+        said = done.stderr.partition(".py': ")[2]
+        numbers = list(dict.fromkeys(re.findall(r"e\d+", said)))
+        said = re.sub(r"e\d+", lambda found: f"e{numbers.index(found[0])}", said)
+        tally.check(f"{name}: one error", done.returncode == 2 and done.stderr.count("\n") == 1 and said == f"{words}\n", done)
+        plan, asked = done.stdout.partition("\n")[2], re.search("answer to `(.+?)`", done.stderr)
+        tally.check(f"{name}: the plan is small", done.stdout.startswith("the plan that it does not answer:\n")
+                    and plan.count("\n") <= 7 and (not asked or f"\n{asked[1]}\n" in plan), done)
 
 
 def small_sessions(tally: Tally) -> None:
@@ -390,6 +446,7 @@ def main() -> None:
         servers(tally, program, folder)
         weak(tally, program, folder)
         errors(tally, program, folder)
+        others(tally, program, folder)
     tally.close()
 
 

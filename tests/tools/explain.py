@@ -1374,6 +1374,19 @@ print("ended" if late.ident and not late.is_alive() else "left")
 """
 
 
+STOPPED_WHILE_IT_WAITS = """
+import os, signal
+from concurrent.futures import _base
+import random_sessions
+enter = _base._AcquireFutures.__enter__
+def enter_and_stop(self):
+    enter(self)
+    os.kill(os.getpid(), signal.SIGTERM)
+_base._AcquireFutures.__enter__ = enter_and_stop
+random_sessions.run_command("")
+"""
+
+
 def record_ended(tally: Tally, program: str, folder: str) -> None:
     """A signal ends `record.py`, the engine and what judges, and it says nothing; a full disk and closed streams are told of."""
     slow, engine, begun = Path(folder, "slow"), Path(folder, "slow_engine.py"), Path(folder, "begun")
@@ -1384,7 +1397,10 @@ def record_ended(tally: Tally, program: str, folder: str) -> None:
                       "    names = insert = delete = apply = len\n")
     temporary = Path(folder, "temporary")
     temporary.mkdir()
-    for words, what in (["list_crdt", str(slow)], "the program"), ([str(engine), program], "the engine"):
+    loaded = Path(folder, "slowly_loaded.py")
+    loaded.write_text("import subprocess, time\n\nstarted = subprocess.Popen(['sleep', '60'])\n"
+                      f"open({str(begun)!r}, 'a').write(f'{{started.pid}}\\n')\ntime.sleep(60)\n")
+    for words, what in (["list_crdt", str(slow)], "the program"), ([str(engine), program], "the engine"), ([str(loaded), program], "a loaded module"):
         for stop in signal.SIGINT, signal.SIGTERM, signal.SIGHUP:
             begun.write_text("")
             running = subprocess.Popen([RECORD, *words, "--sessions", "20"], stdout=subprocess.PIPE, stderr=subprocess.PIPE,
@@ -1402,6 +1418,15 @@ def record_ended(tally: Tally, program: str, folder: str) -> None:
                         (left, os.listdir(temporary)))
     done = subprocess.run([sys.executable, "-c", WAITS_FOR_ONE_THAT_BEGINS], capture_output=True, text=True, env=os.environ | {"PYTHONPATH": str(Path(RECORD).parent)})
     tally.check("record.py: a thread that is about to begin is waited for", (done.returncode, done.stdout) == (0, "ended\n"), done)
+    with subprocess.Popen([sys.executable, "-c", STOPPED_WHILE_IT_WAITS, "list_crdt", str(slow), "--sessions", "20"], stdout=subprocess.PIPE,
+                          stderr=subprocess.STDOUT, env=os.environ | {"PYTHONPATH": str(Path(RECORD).parent)}) as running:
+        try:
+            out = running.communicate(timeout=20)[0]
+        except subprocess.TimeoutExpired:
+            out = b"it hangs"
+            running.kill()
+    tally.check("record.py: a signal while it holds what its threads wait for", (running.returncode, out) == (-signal.SIGTERM, b""),
+                (running.returncode, out))
     for name, told in ("x\n::error::y", "x\\n::error::y"), ("\x1b[31m", "\\x1b[31m"), ("\udcff", "\\xff"):
         done = subprocess.run([RECORD, name, program], capture_output=True, text=True)
         tally.check(f"record.py: {told}", done.returncode == 2 and done.stderr.startswith(f"record.py: {told} is none of "), done)
