@@ -1030,6 +1030,15 @@ def millions_of_names(tally: Tally, program: str, folder: str) -> None:
                     (seconds, megabytes))
 
 
+def millions_of_lines(tally: Tally, program: str, folder: str) -> None:
+    """Of a file beside a trace no more lines are looked at than a recorder writes, whatever its length."""
+    path = Path(folder, "beside.trace")
+    path.write_text(text_of(1, "0 ins a 0 : a|0 read :"))
+    Path(f"{path}.lines").write_bytes(b"4\n4 t.py:7\n" + b"3 t.py:1\nnote x\n" * 4_000_000)
+    got, seconds, megabytes = used([EXPLAIN, "--program", program, str(path)])
+    tally.check("millions of lines beside a trace", got.status == 1 and b"line 4: t.py:7\n" in got.out and seconds < 2 and megabytes < 200, (got, seconds, megabytes))
+
+
 def warned(got: Ended) -> list:
     """The lines of the section of warnings, which is the first one."""
     return [line.strip() for line in paragraph(got.out.decode(), "What this verdict may hide").splitlines()]
@@ -2159,6 +2168,7 @@ def main() -> None:
     with tempfile.TemporaryDirectory() as folder:
         faults(tally, program, folder)
         millions_of_names(tally, program, folder)
+        millions_of_lines(tally, program, folder)
         warnings(tally, program, folder)
         places(tally, program, folder)
         saved(tally, program, folder)

@@ -975,6 +975,12 @@ def not_looked_at(tally: Tally, program: str, folder: str) -> None:
     got = judge(program, [str(packed)])
     tally.check("compressed: alone", got.status == 2 and got.out.endswith(b"\n4 traces: 1 accepted, 3 unread\n")
                 and got.err.count(b"\n  the file is compressed: unpack it first\n") == 3, got)
+    for end in "7z", "br", "lz", "lz4", "lzma", "lzo", "rar", "tar", "tar.gz", "tar.xz", "tgz", "zip", "ZST":
+        Path(packed, f"c.trace.{end}").write_bytes(b"7z\xbc\xaf\x27\x1c")
+        got = judge(program, ["--json", str(packed)])
+        rows = [json.loads(line) for line in got.out.decode().splitlines()]
+        tally.check(f"compressed: alone, {end}", got.status == 2 and [row["verdict"] for row in rows if row["file"].endswith(f"c.trace.{end}")] == ["unread"], got)
+        os.remove(packed / f"c.trace.{end}")
 
 
 def changing(tally: Tally, program: str, folder: str) -> None:

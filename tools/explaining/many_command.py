@@ -33,7 +33,7 @@ STATUSES = ("It ends with status 0 where all are accepted, 1 where all can be re
 MOST_WARNED = 20  # warnings that are printed on standard error
 TRACE = ".trace"  # in any case
 HOLDS = {True: "yes", False: "no", None: "-"}  # None where the report says nothing of it, or there is none
-COMPRESSED = re.compile(r"(.*\.trace)\.(gz|bz2|xz|zst|lz4|zip|z)", re.IGNORECASE | re.DOTALL)
+COMPRESSED = re.compile(r"(.*\.trace)\.(gz|bz2|xz|zst|zstd|lz4|lz|lzma|lzo|br|7z|rar|zip|z|tgz|tbz2?|txz|tar|tar\.[a-z0-9]+)", re.IGNORECASE | re.DOTALL)
 NOTHING_THERE = [errno.ENOENT, errno.ENOTDIR, errno.ELOOP]  # behind a link
 
 

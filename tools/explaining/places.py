@@ -25,6 +25,7 @@ REFUSED = re.compile(rb"refused (.{1,4000})")
 OF_LOG = re.compile(r"[^,]*\.(log|txt|out|(nd)?jsonl?|[ct]sv|xml)(\.[0-9]+)?(:[0-9]+)?")  # one that was rotated too
 LOG_MARK, MERGED_MARK = b"log", b"merged"
 MOST_NOTES, MOST_DELIVERED, MOST_REFUSED = 20, 100, 20
+MOST_MARKS = 1000  # lines beside a trace that are about no line of it: more than any recorder writes
 CALLED = ", called from "  # between two places of one line
 SHOWN_LINE = re.compile(r"\(line (\d+)\)")  # in a warning
 
@@ -74,8 +75,8 @@ def printable(text: bytes) -> str:
 
 def lines_beside(trace: bytes, side: Side) -> list:
     """The lines of the file beside the trace, behind its first; none of another trace's. The last one may have been cut, if it has no
-    end."""
-    *lines, _ = (side.content or b"").split(b"\n")
+    end. No recorder writes more than two for each line of the trace, and some: what stands behind these is not looked at."""
+    *lines, _ = (side.content or b"").split(b"\n", 2 * trace.count(b"\n") + MOST_MARKS)
     return lines[1:] if lines and lines[0].strip() == b"%d" % trace.count(b"\n") else []
 
 
