@@ -331,6 +331,8 @@ def main():
         if log.saved < log.count:
             say("warning: %s has %d lines, and %s%s says that %d were saved: is that file of another log?"
                 % (log.path, log.count, log.path, SIDE, log.saved))
+        for line in log.refused:  # which standard output has no place for
+            say("warning: %s: %s" % (log.path, shown(line[len(b"refused "):].decode("utf-8", "replace"))))
     try:
         lines = lines_of([log.text for log in logs], paths)
     except Unmerged as why:

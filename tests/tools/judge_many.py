@@ -642,6 +642,15 @@ def known_as_cut(tally: Tally, program: str, folder: str) -> None:
     tally.check("longer than what was saved: failed, and said first", got.status == 2 and got.err.decode().splitlines()[0] == (
         f"domepeeler-judge-many: {folder}/longer/s.trace: the trace has 4 lines, and {folder}/longer/s.trace.lines says that 3 were saved: is that file of "
         "another trace?") and b"8 accepted, 1 failed" in got.out, got)
+    Path(folder, "alone").mkdir()
+    for name, content in ("a.trace", "trace 1\nreplicas 1\n0 ins a 0 : a\n"), ("new.trace.lines", "4\n"), ("p.trace.lines", "4\n"), ("p.trace.7z", "7z"):
+        Path(folder, "alone", name).write_text(content)
+    got = judge(program, ["--json", f"{folder}/alone"])
+    rows = {Path(row["file"]).name: row["verdict"] for row in map(json.loads, got.out.decode().splitlines())}
+    tally.check("a trace that was to be put beside its lines, and is not there", got.status == 2 and rows == {"a.trace": "accepted", "new.trace": "unread", "p.trace.7z": "unread"}, got)
+    Path(folder, "alone", "a.trace.lines").write_text("3\nrefused name x")
+    got = judge(program, ["--json", f"{folder}/alone/a.trace"])
+    tally.check("a refused call in a line that was cut", got.status == 2 and json.loads(got.out)["verdict"] == "failed" and "name x" in json.loads(got.out)["error"], got)
     Path(folder, "mixed").mkdir()
     for name, lines in ("aa", "0 inz a 0 : a\n"), ("half", "0 ins a 0 : a\n0 rea"), ("zz", "0 ins a 0 : a\n"):
         Path(folder, "mixed", f"{name}.trace").write_text(f"trace 1\nreplicas 1\n{lines}")

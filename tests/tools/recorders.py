@@ -1828,12 +1828,23 @@ MERGED_BESIDE = [
      "18\nmerged\n3 a.py:1\n4 a.py:2, called from b.py:9\n11 a.py:5\n", CUT.format("1.log", 4, 10) + CUT.format("2.log", 4, 5)),
     ("another log's", [b"4\n4 c.py:4\n", CODE_BESIDE[1], None], "11\nmerged\n6 c.py:4\n", MORE.format("0.log", 7, 4)),
     ("a log's that has grown, with refused calls", [b"4\nrefused what it says\n4 c.py:4\n", None, b"9\nrefused and this\n"],
-     "16\nmerged\nrefused what it says\nrefused and this\n", MORE.format("0.log", 7, 4) + CUT.format("2.log", 4, 9)),
+     "16\nmerged\nrefused what it says\nrefused and this\n", MORE.format("0.log", 7, 4) + "merge.py: warning: 0.log: what it says\n" + CUT.format("2.log", 4, 9) + "merge.py: warning: 2.log: and this\n"),
     ("what is no place", [b"7\nplace\n3 \n\n09 a.py:1\n2 a.py:2\n5 a.py:3", b"no number\n3 c.py:3\n", b""], "11\nmerged\n",
      NO_NUMBER.format("1.log") + NO_NUMBER.format("2.log")),
     ("what is no text", [b"7\n3 \xc3\xa9\xff.py:1\n", b"1" * 5000 + b"\n4 c.py:4\n", b"\n"], "11\nmerged\n3 \u00e9\udcff.py:1\n",
      NO_NUMBER.format("1.log") + NO_NUMBER.format("2.log")),
 ]
+
+
+def check_merge_refused(tally: Tally, folder: Path) -> None:
+    """On standard output, which has no file beside it, refused calls of a log are warned of."""
+    place = folder / "refused logs"
+    place.mkdir()
+    (place / "0.log").write_text("trace 1\nreplicas 1\n0 read :\n")
+    (place / "0.log.lines").write_bytes(b"3\nrefused name \x1b\n")
+    done = subprocess.run([sys.executable, ROOT / "recorders" / "merge.py", "0.log"], cwd=place, capture_output=True, text=True, timeout=60)
+    tally.check("merge.py: refused calls, to standard output", (done.returncode, done.stdout, done.stderr) == (
+        0, "trace 1\nreplicas 1\n0 read :\n", "merge.py: warning: 0.log: name \\x1b\n"), done)
 
 
 def check_merge_hostile(tally: Tally, folder: Path) -> None:
@@ -3436,6 +3447,7 @@ def main() -> None:
         check_limits_are_the_programs(tally, program, texts["py"])
         check_merge(tally, program, folder)
         check_merge_hostile(tally, folder)
+        check_merge_refused(tally, folder)
         check_guide(tally, program, folder)
         check_readme(tally, program, folder)
         check_hypothesis(tally, program, folder)

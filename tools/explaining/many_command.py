@@ -104,6 +104,8 @@ def traces_in(folder: str, been: set) -> list:
             found += traces_in(path, been)
         elif name.lower().endswith(TRACE) or is_compressed_alone(name, names):
             found.append(path)
+        elif is_of_missing(name, names):
+            found.append(path[:-len(SIDE)])
     return found
 
 
@@ -111,6 +113,12 @@ def is_compressed_alone(name: str, names: list) -> bool:
     """Whether a trace is there that is compressed, and does not lie beside it unpacked: it is told of as one that does not read."""
     packed = COMPRESSED.fullmatch(name)
     return packed is not None and packed[1] not in names
+
+
+def is_of_missing(name: str, names: list) -> bool:
+    """Whether it stands beside a trace that is not there, packed or not: a recorder was stopped before it had put that there."""
+    trace = name[:-len(SIDE)]
+    return name.lower().endswith(TRACE + SIDE) and trace not in names and not any(other.startswith(trace) and COMPRESSED.fullmatch(other) for other in names)
 
 
 def is_folder(path: str) -> bool:

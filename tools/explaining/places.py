@@ -75,8 +75,10 @@ def printable(text: bytes) -> str:
 
 def lines_beside(trace: bytes, side: Side) -> list:
     """The lines of the file beside the trace, behind its first; none of another trace's. The last one may have been cut, if it has no
-    end. No recorder writes more than two for each line of the trace, and some: what stands behind these is not looked at."""
-    *lines, _ = (side.content or b"").split(b"\n", 2 * trace.count(b"\n") + MOST_MARKS)
+    end; but that calls were refused is believed without one. No recorder writes more than two for each line of the trace, and some: what
+    stands behind these is not looked at."""
+    *lines, last = (side.content or b"").split(b"\n", 2 * trace.count(b"\n") + MOST_MARKS)
+    lines += [last] if REFUSED.fullmatch(last) else []
     return lines[1:] if lines and lines[0].strip() == b"%d" % trace.count(b"\n") else []
 
 
