@@ -1564,6 +1564,7 @@ def script_of_ci(tally: Tally, program: str, folder: str) -> None:
     again = in_ci(str(place), path, f"{script} .", {})
     tally.check("script of CI: a second run judges the same", again.stdout == first.stdout and sorted(os.listdir(place / "judged")) == kept, again)
     Path(place, "b.trace").unlink()
+    Path(place, "b.trace.lines").unlink()
     in_ci(str(place), path, f"{script} .", {})
     tally.check("script of CI: what an earlier run left is gone", "3.html" in kept and "3.html" not in os.listdir(place / "judged"))
     Path(place, "judged", "mine.txt").write_text("mine\n")
