@@ -53,6 +53,7 @@ WITH_SIGNS = re.compile(r"[A-Za-z0-9_.@,:/-]+", re.ASCII)  # an id that is trans
 UUID = re.compile(r"[0-9A-Fa-f]{8}(-[0-9A-Fa-f]{4}){3}-[0-9A-Fa-f]{12}", re.ASCII)
 __tracebackhide__ = True  # pytest shows a refused call where the test makes it
 ONE_LOG = "one replica's log is no recording: merge the logs first"
+FORKED = "this process was forked, so it would record into a copy that nothing judges: let each process keep a log of its own, and merge them"
 NOT_STOPPED = "one replica's log can't be judged after each call, but only when the logs are merged"
 MOST_NOTES, MOST_LETTERS = 20, 200  # of a recording, and of a note
 MOST_DELIVERED = 100  # calls of `delivered` of which the tool is told
@@ -159,6 +160,7 @@ class Recording:
 
     def __init__(self, replicas: int, only: Optional[int] = None, stop: bool = False, weak: bool = False) -> None:
         self._lock = threading.RLock()
+        self._process = os.getpid()
         if not _whole(replicas, 1, MOST_REPLICAS):
             raise Refused(f"replicas are 1 to {MOST_REPLICAS}, not {replicas}" if _is_int(replicas) else
                           _not_whole("number of replicas", replicas, 1, MOST_REPLICAS))
@@ -191,7 +193,7 @@ class Recording:
         return {name: value for name, value in vars(self).items() if name != "_lock"}  # a copy has its own
 
     def __setstate__(self, state: Dict[str, Any]) -> None:
-        vars(self).update(state, _lock=threading.RLock())
+        vars(self).update(state, _lock=threading.RLock(), _process=os.getpid())
 
     @_alone
     def at(self, file: Union[str, "os.PathLike[str]", None] = None, line: int = 1) -> None:
@@ -655,6 +657,8 @@ class Recording:
     def _noting(self, call: Call, *given: Any, **named: Any) -> Any:
         """What a call that records answers. If it is refused, that is remembered: what it says is not recorded. At a limit the session ends
         and the caller knows it; and of what is not causal is known whether it comes later."""
+        if self._process != os.getpid():
+            raise Refused(FORKED)
         try:
             return call(self, *given, **named)
         except (Full, NotCausal):

@@ -6,8 +6,8 @@ order; a receipt waits until the operation that it names stands before it. No cl
 same logs have the same report.
 
 A file with `.lines` behind a log's name may say how many lines were saved, and from where in your code each was recorded. A log that has
-fewer lines is warned of, and its places are left out. Such a file is written beside TRACE too; it counts lost lines as well, so that the
-tools warn of them."""
+fewer lines, or more, is warned of, and its places are left out. Such a file is written beside TRACE too; it counts the lines that were
+saved, so that the tools tell of lost ones and of those that came later."""
 import os
 import sys
 
@@ -162,6 +162,10 @@ class Log:
         """How many lines were saved that are not there."""
         return max(self.saved - self.count, 0)
 
+    def later(self):
+        """How many lines are there that were not saved with what stands beside them."""
+        return max(self.count - self.saved, 0)
+
     def places(self):
         """By number of a line from where it was recorded; of two the first counts."""
         found = [place.groups() for place in map(PLACE.fullmatch, self.beside) if place]
@@ -170,14 +174,16 @@ class Log:
 
 def beside_trace(logs, lines):
     """What is to stand beside the trace: how many lines there should be, the notes of all logs, which calls were refused, and from where the lines were
-    recorded."""
+    recorded. Lines that were lost in one log are not made up for by those that came later to another."""
+    lost = sum(log.lost() for log in logs)
+    saved = len(lines) + (lost or -sum(log.later() for log in logs))
     places = [log.places() for log in logs]
     found = [(number, places[log].get(b"%d" % at)) for number, (_, log, at) in enumerate(lines, 1)]
     notes = list(dict.fromkeys(line for log in logs for line in log.beside if NOTE.fullmatch(line)))[:MOST_NOTES]
     refused = [line for log in logs for line in log.refused][:MOST_REFUSED]
     marks = notes + [MERGED_MARK] + [LOG_MARK] * any(LOG_MARK in log.beside for log in logs) + refused
     told = [b"%d %b" % one for one in found if one[0] > HEAD and one[1]]
-    return b"".join(line + b"\n" for line in [b"%d" % (len(lines) + sum(log.lost() for log in logs))] + marks + told)
+    return b"".join(line + b"\n" for line in [b"%d" % saved] + marks + told)
 
 
 def content(path):
@@ -328,7 +334,7 @@ def main():
         if log.lost():
             say("warning: %s may have been cut at a line's end: it has %d lines, and %s%s says that %d were saved"
                 % (log.path, log.count, log.path, SIDE, log.saved))
-        if log.saved < log.count:
+        if log.later():
             say("warning: %s has %d lines, and %s%s says that %d were saved: is that file of another log?"
                 % (log.path, log.count, log.path, SIDE, log.saved))
         for line in log.refused:  # which standard output has no place for

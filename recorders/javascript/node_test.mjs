@@ -10,9 +10,10 @@
 //
 // Where the recording is not accepted, or nothing was recorded, the test fails, and its error has the explanation and the path of the
 // saved trace. What hooks record behind the body is judged too; what is recorded or refused later still, as by a promise that nobody
-// awaits, fails the process. Where the test fails by itself, its diagnostics have them, of an accepted recording too. Where it passes, the
-// trace that it saved before is removed, and what the verdict may hide stands in its diagnostics. For a property of fast-check or another
-// library, let the property end with: await accepted(recording, "failed.trace")
+// awaits, fails the process, and so does a test that ends the process before it is judged. Where the test fails by itself, its
+// diagnostics have them, of an accepted recording too. Where it passes, the trace that it saved before is removed, and what the verdict
+// may hide stands in its diagnostics. For a property of fast-check or another library, let the property end with:
+//     await accepted(recording, "failed.trace") // which judges what is recorded by then
 //
 // With { stop: true } as a last argument of recorded() the test fails in the call that answered wrong, and its error's stack begins there.
 //
@@ -28,14 +29,15 @@ const WEAK_ALONE = "weak holds, strong doesn't"
 const FIRST_LINES = 2 // of each trace: its version, and how many replicas there are
 const named = new Map() // by name of a file: how many tests of this process have had it
 const warned = new Set() // paths of properties of which a recording has hidden something
-const ended = new Map() // by recording: its test, and its state when it was judged
+const watched = new Map() // by recording: its test, and its state when it was judged, if it was
 
 process.on("exit", () => {
-  for (const [recording, { test, state }] of ended) {
+  for (const [recording, { test, state }] of watched) {
     if (isSame(stateOf(recording), state)) continue
-    const why = recording.lines() === state.lines ? "a call was refused when the test had ended, so what it says was not judged" :
-      "something was recorded when the test had ended, so it was not judged"
-    console.error(`${test}: ${why}: is an await missing?`)
+    const why = !state ? "the process ended within the test, so what it recorded was not judged" : recording.lines() === state.lines ?
+      "a call was refused when the test had ended, so what it says was not judged: is an await missing?" :
+      "something was recorded when the test had ended, so it was not judged: is an await missing?"
+    console.error(`${test}: ${why}`)
     process.exitCode ||= 1
   }
 })
@@ -55,16 +57,17 @@ export function recorded(replicas, body, { folder = FOLDER, weak = false, stop =
   return async (context) => {
     const recording = new Recording(replicas, null, { stop, weak: stop && weak })
     const test = context.fullName ?? context.name // with the suites' names where Node tells them
+    watched.set(recording, { test })
     const path = resolve(folder, fileName(test))
     const tell = (told) => `${test}: ${told}`.split("\n").forEach((line) => context.diagnostic(line)) // TAP shows each as one line
     const judge = async () => {
       const state = stateOf(recording)
-      ended.delete(recording) // a test that fails has told enough
       const { told, warnings, isAlone } = await judged(recording, path, weak)
+      if (told || state.lines === FIRST_LINES) watched.delete(recording) // a test that fails has told enough
       if (told) throw new NotAccepted(told)
       if (isAlone) tell(WEAK_ALONE)
       if (state.lines === FIRST_LINES) throw new NotAccepted(warnings.join("\n"))
-      ended.set(recording, { test, state })
+      watched.set(recording, { test, state })
       warnings.forEach(tell)
       for (const left of [path, `${path}.lines`]) await rm(left, { force: true }).catch(() => {}) // most often there is none
     }
@@ -72,10 +75,11 @@ export function recorded(replicas, body, { folder = FOLDER, weak = false, stop =
       await body(recording, context)
     } catch (why) {
       tell((await judged(recording, path, weak, true, why?.message)).told)
+      watched.delete(recording)
       throw why
     }
     await judge()
-    context.after?.(() => isSame(stateOf(recording), ended.get(recording).state) || judge()) // the last of the hooks
+    context.after?.(() => isSame(stateOf(recording), watched.get(recording)?.state) || judge()) // the last of the hooks
   }
 }
 
@@ -95,7 +99,7 @@ function stateOf(recording) {
 }
 
 function isSame(one, other) {
-  return one.lines === other.lines && one.refusals === other.refusals
+  return one.lines === other?.lines && one.refusals === other?.refusals
 }
 
 // The verdict on a recording in words, if these aren't known, which is then saved; nothing where it passes, unless its test has failed by

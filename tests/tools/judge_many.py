@@ -923,6 +923,24 @@ def which_traces(tally: Tally, program: str, folder: str, other: str) -> None:
                Ended(2, b"", f"domepeeler-judge-many: there is no *.trace file below {folder}/empty\n".encode()))
 
 
+def beside_links(tally: Tally, program: str, folder: str, other: str) -> None:
+    """Of a trace behind a link what stands beside the link counts, or else what stands beside the trace that it leads to."""
+    write(other, {"real.trace": "0 ins a 0 : a"})
+    Path(other, "real.trace.lines").write_text("4\n")
+    os.symlink(f"{other}/real.trace", f"{folder}/by_link.trace")
+    for what, side, status in ("beside the trace", None, 2), ("beside the link", "3\n", 0), ("beside both", "4\n", 2):
+        if side:
+            Path(folder, "by_link.trace.lines").write_text(side)
+        got = judge(program, ["--json", folder])
+        row = json.loads(got.out)
+        tally.check(f"links: what stands {what}", (got.status, row["verdict"]) == (status, "failed" if status else "accepted"), got)
+        told = subprocess.run([EXPLAIN, "--program", program, f"{folder}/by_link.trace"], capture_output=True, text=True)
+        tally.check(f"links: explain, {what}", ("may have been cut" in told.stdout) == bool(status), told)
+    Path(folder, "by_link.trace.lines").unlink()
+    got = judge(program, ["--junit", f"{other}/real.trace.lines", folder])
+    tally.check("links: what stands beside the trace is not written over", got.status == 2 and Path(other, "real.trace.lines").read_text() == "4\n", got)
+
+
 AS_USERS = ["setpriv", "--bounding-set", "-dac_override,-dac_read_search"] if os.geteuid() == 0 else []  # who may not read everything
 
 
@@ -1938,6 +1956,8 @@ def main() -> None:
         write(third, ACCEPTED | FAILING)
         stopped(tally, third, folder)
         unknown_faults(tally, program, third)
+    with tempfile.TemporaryDirectory() as folder, tempfile.TemporaryDirectory() as other:
+        beside_links(tally, program, folder, other)
     tally.close()
 
 

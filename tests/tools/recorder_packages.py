@@ -333,7 +333,9 @@ def test_waits():
 
 ENDS = {
     "python": '''
+import os
 import pytest
+from domepeeler import Refused
 
 
 @pytest.fixture
@@ -411,8 +413,30 @@ def test_meant_to_fail(domepeeler):
 
 
 def test_skipped(domepeeler):
-    domepeeler(1).insert(0, "a", 0, [])
+    domepeeler(1).insert(0, "a", 0, ["a"])
     pytest.skip("not today")
+
+
+def test_skipped_and_wrong(domepeeler):
+    domepeeler(1).insert(0, "a", 0, [])
+    pytest.skip("nor tomorrow")
+
+
+def test_begins_none(domepeeler):
+    pass
+
+
+def test_forks(domepeeler):
+    recording = domepeeler(1)
+    recording.insert(0, "a", 0, ["a"])
+    child = os.fork()
+    if not child:
+        try:
+            recording.read(0, [])
+        except Refused as why:
+            os._exit(7 if "forked" in str(why) else 8)
+        os._exit(0)
+    assert os.waitpid(child, 0)[1] >> 8 == 7
 ''',
     "javascript": '''
 import { test } from "node:test"
@@ -429,6 +453,55 @@ test("fails and is right", recorded(1, (recording) => {
   throw new Error("five is not six")
 }))
 '''}
+
+# Tests of which the last but one ends pytest, in its own part or while it is torn down.
+CUT_SHORT = '''
+import pytest
+
+
+@pytest.fixture
+def ending(domepeeler):
+    yield domepeeler
+    domepeeler(1).read(0, ["a"])
+    {teardown}
+
+
+def test_right(domepeeler):
+    domepeeler(1).insert(0, "a", 0, ["a"])
+
+
+def test_ends(ending):
+    ending(1).insert(0, "a", 0, {names})
+    {body}
+
+
+def test_last():
+    pass
+'''
+
+# Tests of Node of which one ends the process, in its body or in a hook.
+EXITS_OF_NODE = '''
+import { test } from "node:test"
+import { recorded } from "domepeeler/node_test"
+
+const names = process.env.EXITS ? [] : ["a"]
+test("right", recorded(1, (recording) => recording.insert(0, "a", 0, ["a"])))
+test("body", recorded(1, (recording) => {
+  recording.insert(0, "a", 0, names)
+  if (process.env.EXITS === "body") process.exit(0)
+}))
+test("hook", recorded(1, (recording, context) => {
+  recording.insert(0, "a", 0, ["a"])
+  context.after(() => {
+    recording.read(0, names)
+    if (process.env.EXITS === "hook") process.exit(0)
+  })
+}))
+test("skips", recorded(1, (recording, context) => {
+  recording.insert(0, "a", 0, names)
+  if (process.env.EXITS) context.skip("not today")
+}))
+'''
 
 # Tests of Node whose hooks, or timers, record behind the body: LATE loses an element.
 LATE = '''
@@ -1032,23 +1105,27 @@ def check_ends_of_pytest(tally: Tally, place: Place, command: list) -> None:
     shutil.rmtree(kept)
     done = place.run(command, "python")
     tally.check("pytest: counts of ends", done.returncode == 1 and
-                "1 failed, 5 passed, 1 skipped, 1 xfailed, 2 warnings, 4 errors" in done.stdout, done.stdout)
+                "1 failed, 7 passed, 2 skipped, 1 xfailed, 3 warnings, 5 errors" in done.stdout, done.stdout)
+    warned = done.stdout.partition("test_ends.py::test_begins_none")[2].partition("\n\n")[0]
+    tally.check("pytest: warns of a test that takes the fixture and begins no recording",
+                "NothingRecorded: the fixture domepeeler began no recording, so nothing was judged" in warned, done.stdout)
     said = dict(zip(*[iter(re.split(r"^_{3,} (.+) _{3,}$", done.stdout.split("= short test summary")[0], flags=re.MULTILINE)[1:])] * 2))
     for name, words in ("ERROR at teardown of test_late", [LOST]), ("ERROR at teardown of test_begun_late", ["contents 0.1: "]), (
-            "ERROR at setup of test_set_up", ["no editor", "accepted"]), ("ERROR at teardown of test_torn_down", ["no end", "accepted"]), (
+            "ERROR at setup of test_set_up", ["no editor", "accepted"]), ("ERROR at teardown of test_skipped_and_wrong", ["contents 0.1: "]), ("ERROR at teardown of test_torn_down", ["no end", "accepted"]), (
             "test_fails_and_is_right", ["assert 5 == 6", "accepted", "\nNoted\n  seed 17\n"]):
         text = said.get(name, "")
         tally.check(f"pytest: {name}", all(word in text for word in words) and "The trace is saved: " in text, (sorted(said), text))
     traces = sorted(path.name for path in kept.iterdir() if path.name.endswith(".trace"))
     tally.check("pytest: traces of ends", traces == [f"test_ends.py--test_{name}.trace" for name in (
-        "begun_late", "fails_and_is_right", "late", "set_up", "torn_down")], traces)
+        "begun_late", "fails_and_is_right", "late", "set_up", "skipped_and_wrong", "torn_down")], traces)
     tally.check("pytest: warns of what an accepted recording may hide", all(f"Unsure: {told}\n" in done.stdout for told in UNSURE),
                 done.stdout)
     for name, more in ("pytest", ["-p", "no:xdist"]), ("pytest-xdist", ["-n", "2", "--dist", "loadfile"]):
         check_later_of_pytest(tally, place, name, [*command[:-1], *more, "test_later.py"])
     (place.folder / "python/test_later.py").unlink()
+    check_cut_short(tally, place, [*command[:-1], "test_cut.py"])
     done = place.run([*command, "-k", "unsure", "-W", "error::domepeeler.pytest_plugin.Unsure"], "python")
-    tally.check("pytest: such a warning as an error", done.returncode == 1 and "1 passed, 8 deselected, 1 error" in done.stdout
+    tally.check("pytest: such a warning as an error", done.returncode == 1 and "1 passed, 11 deselected, 1 error" in done.stdout
                 and f"\nUnsure: {UNSURE[0]}\n" in done.stdout and "The trace is saved: " in done.stdout, done.stdout)
     broken = str(place.folder / "broken")
     for script, told in BROKEN:
@@ -1082,7 +1159,7 @@ def check_later_of_pytest(tally: Tally, place: Place, name: str, command: list) 
     check("what is recorded after a test has ended fails the run", LATER, "2 passed", ("test_goes_on", recorded))
     for scope in "module", "session":
         check(f"what a fixture of scope {scope} records when it is torn down fails the run", WIDER.format(scope=scope, is_last_recorded=False),
-              "2 passed", ("test_first", recorded))
+              "2 passed, 1 warning", ("test_first", recorded))
         has_failed, said, told = run(WIDER.format(scope=scope, is_last_recorded=True))
         tally.check(f"{name}: what it records of the last test, of scope {scope}, is judged", has_failed and "2 passed, 1 error" in said and
                     "contents 0.2: " in said.partition("ERROR at teardown of test_last")[2] and told == [("test_first", recorded)], said)
@@ -1092,6 +1169,23 @@ def check_later_of_pytest(tally: Tally, place: Place, name: str, command: list) 
                  ("test_first", "a call was refused"))
     tally.check(f"{name}: warns of a call that is refused in a teardown", said.count(f"Unsure: {REFUSAL}") == 1 and
                 "test_client" in said.partition("warnings summary")[2], said)
+
+
+def check_cut_short(tally: Tally, place: Place, command: list) -> None:
+    """A test that ends pytest with status 0 hides nothing that was recorded in it: it was not judged, which fails the run."""
+    leave = "pytest.exit('enough', returncode=0)"
+    for name, body, teardown in ("body", leave, "pass"), ("teardown", "pass", leave):
+        for how, more in ("", []), (" of a worker", ["-n", "1"]):
+            place.make("python/test_cut.py", CUT_SHORT.format(names=["a"], body=body, teardown=teardown))
+            done = place.run([*command, *more], "python")
+            told = re.findall(r"^ERROR test_cut\.py::(\w+) - domepeeler: (.*)", done.stdout, re.MULTILINE)
+            is_told = told == [("test_ends", "pytest ended within the test, so what it recorded was not judged")]
+            tally.check(f"pytest: a test that ends pytest in its {name}{how}", done.returncode and (is_told or more), done.stdout)
+    place.make("python/test_cut.py", CUT_SHORT.format(names=[], body="pytest.skip('now')", teardown="pytest.skip('then')"))
+    done = place.run(command, "python")
+    tally.check("pytest: a test that is skipped while it is torn down", done.returncode == 1 and
+                "ERROR test_cut.py::test_ends - domepeeler: the test was skipped while it was torn down" in done.stdout, done.stdout)
+    (place.folder / "python/test_cut.py").unlink()
 
 
 def check_weak_of_pytest(tally: Tally, place: Place, command: list) -> None:
@@ -1263,6 +1357,17 @@ def check_ends_of_node(tally: Tally, place: Place) -> None:
     done = place.run(words_refused, "packed", TIMER="1")
     tally.check("node --test: a call that is refused later still is told of", done.returncode == 1 and "ok 2 - timer" in done.stdout and
                 "timer: a call was refused when the test had ended, so what it says was not judged" in done.stdout, done.stdout)
+    place.make("packed/exits.test.mjs", EXITS_OF_NODE)
+    words_exits = [*words[:-1], "exits.test.mjs"]
+    done = place.run(words_exits, "packed")
+    tally.check("node --test: tests that end by themselves", done.returncode == 0 and "# pass 4\n" in done.stdout, done.stdout)
+    for exits, told in ("body", "body: the process ended within the test, so what it recorded was not judged"), (
+            "hook", "hook: something was recorded when the test had ended, so it was not judged"):
+        done = place.run(words_exits, "packed", EXITS=exits)
+        tally.check(f"node --test: the process ends in a {exits}", done.returncode == 1 and f"# {told}" in done.stdout, done.stdout)
+    done = place.run(words_exits, "packed", EXITS="no")
+    tally.check("node --test: a test that is skipped is judged", done.returncode == 1 and "not ok 4 - skips # SKIP not today\n" in done.stdout,
+                done.stdout)
     broken = str(place.folder / "broken")
     for script, why in BROKEN:
         place.make("broken", f"#!/bin/sh\n{script}\n", 0o755)

@@ -1826,7 +1826,7 @@ MERGED_BESIDE = [
     ("one that was moved alone", [None, CODE_BESIDE[1], None], "11\nmerged\n6 c.py:4\n", ""),
     ("cut logs", [CODE_BESIDE[0], b"10\n4 c.py:4\n", b"5\n3 d.py:3\n"],
      "18\nmerged\n3 a.py:1\n4 a.py:2, called from b.py:9\n11 a.py:5\n", CUT.format("1.log", 4, 10) + CUT.format("2.log", 4, 5)),
-    ("another log's", [b"4\n4 c.py:4\n", CODE_BESIDE[1], None], "11\nmerged\n6 c.py:4\n", MORE.format("0.log", 7, 4)),
+    ("another log's", [b"4\n4 c.py:4\n", CODE_BESIDE[1], None], "8\nmerged\n6 c.py:4\n", MORE.format("0.log", 7, 4)),
     ("a log's that has grown, with refused calls", [b"4\nrefused what it says\n4 c.py:4\n", None, b"9\nrefused and this\n"],
      "16\nmerged\nrefused what it says\nrefused and this\n", MORE.format("0.log", 7, 4) + "merge.py: warning: 0.log: what it says\n" + CUT.format("2.log", 4, 9) + "merge.py: warning: 2.log: and this\n"),
     ("what is no place", [b"7\nplace\n3 \n\n09 a.py:1\n2 a.py:2\n5 a.py:3", b"no number\n3 c.py:3\n", b""], "11\nmerged\n",

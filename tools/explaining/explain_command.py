@@ -13,7 +13,7 @@ from .cycle_picture import drawing
 from .debuggers import LANGUAGES, USUAL
 from .evidence import Evidence, Unexplained
 from .faulty_lines import about_fault
-from .files import MOST_BYTES, NO_SIDE, SIDE, Side, Unread, read_both, shown, write_file, written_over
+from .files import MOST_BYTES, NO_SIDE, SIDE, Side, Unread, name_beside, read_both, shown, write_file, written_over
 from .page import page_of
 from .places import Beside, beside, placed_warnings, with_places
 from .programs import WAYS, Judged, NoProgram, find_program, is_weak_alone, judge, passes, report_of, report_text
@@ -155,7 +155,7 @@ def explain(asked: argparse.Namespace, program: str, trace: bytes, side: Side, j
 
 def main() -> None:
     asked = words_asked()
-    check_outputs(asked, ["/dev/stdin"] if asked.trace == "-" else [asked.trace, asked.trace + SIDE])
+    check_outputs(asked, ["/dev/stdin"] if asked.trace == "-" else [asked.trace, asked.trace + SIDE, name_beside(asked.trace)])
     trace, side = read(asked.trace)
     try:
         program = find_program(asked.program)

@@ -103,19 +103,27 @@ class Before(NamedTuple):
         """What has changed since then: the open trace, or which file has its name, or that beside it. Nothing, if none has."""
         if not self.trace == state(descriptor) == state(path):
             return CHANGED
-        return CHANGED_BESIDE if self.side != state(path + SIDE) else ""
+        return CHANGED_BESIDE if self.side != state(name_beside(path)) else ""
 
 
 def before(descriptor: int, path: str) -> Before:
-    return Before(state(descriptor), state(path + SIDE))
+    return Before(state(descriptor), state(name_beside(path)))
+
+
+def name_beside(path: str) -> str:
+    """The name of the file beside a trace; of a link without one it is that beside the file which the link leads to."""
+    if os.path.islink(path) and not os.path.lexists(path + SIDE):
+        return os.path.realpath(path) + SIDE
+    return path + SIDE
 
 
 def side_of(path: str) -> Side:
     """The file beside the trace of this name."""
+    name = name_beside(path)
     try:
-        return Side(path + SIDE, read_file(path + SIDE, MOST_BESIDE))
+        return Side(name, read_file(name, MOST_BESIDE))
     except Unread as error:
-        return Side(path + SIDE, None, "" if str(error) in ABSENT else str(error))
+        return Side(name, None, "" if str(error) in ABSENT else str(error))
 
 
 def read_both(path: str) -> tuple:

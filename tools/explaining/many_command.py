@@ -16,7 +16,7 @@ from typing import NoReturn
 from .commands import Once, Parser, add_version
 from .elsewhere import NoParallel, judged_there, needs_parallel
 from .faulty_lines import ENTRIES
-from .files import SIDE, shown, write_file, written_over
+from .files import SIDE, name_beside, shown, write_file, written_over
 from .judges import TooMany, judged_here
 from .junit import junit_of
 from .programs import WAYS, WEAK_ALONE, NoProgram, check_is_domepeeler, find_program
@@ -260,7 +260,7 @@ def main() -> None:
     except (NoProgram, NoParallel) as error:
         fail(str(error))
     files = traces_below(asked.folders)
-    why = written_over([asked.junit], [program, *(name for file in files for name in (file, file + SIDE))]) if asked.junit else ""
+    why = written_over([asked.junit], [program, *(name for file in files for name in (file, file + SIDE, name_beside(file)))]) if asked.junit else ""
     if why:
         fail(why)
     rows = in_order(judged(asked, program, files, jobs))

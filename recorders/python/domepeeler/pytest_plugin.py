@@ -12,9 +12,10 @@ Begin `domepeeler(2, stop=True)`, and the test fails in the call that answered w
 Where a recording is not accepted the test fails, and its report has the explanation and the path of the saved trace. What other
 fixtures record while they are torn down is judged too, when that is done; pytest tells it as an error of the test. The report of a
 test that fails by itself has the verdict on its recordings, accepted or not, in a section of its own, and they are saved. Where a test
-passes, the traces that it saved before are removed; and of what its accepted recordings may hide pytest warns, by `Unsure`. What is
-recorded, refused or begun later still, as by a thread or a wider fixture, nothing has judged: it fails the run, if it comes before pytest
-has ended, or the worker of pytest-xdist that ran the test."""
+passes, the traces that it saved before are removed; and of what its accepted recordings may hide pytest warns, by `Unsure`. What a test
+records before it is skipped is judged too; not that of a test which is expected to fail, and does. What is recorded, refused or begun later
+still, as by a thread or a wider fixture, nothing has judged: it fails the run, if it comes before pytest has ended, or the worker of
+pytest-xdist that ran the test. So do recordings of a test that ends pytest, by `pytest.exit`; `os._exit` hides them, as it hides all else."""
 from __future__ import annotations
 
 import contextlib
@@ -22,7 +23,7 @@ import hashlib
 import os
 import re
 from pathlib import Path
-from typing import Any, Callable, Generator, List, Optional, Tuple
+from typing import Any, Callable, Dict, Generator, List, Optional, Tuple, cast
 
 import pytest
 
@@ -34,9 +35,13 @@ MOST_LETTERS = 150  # of a test's own name in the name of a file
 BEGUN = "_domepeeler_begun"
 WEAK_ALONE = "weak holds, strong doesn't"
 ENDED, GROWN = "_domepeeler_ended", "_domepeeler_grown"  # recordings of tests that have ended; what is told of those that grew since
+OPEN = "_domepeeler_open"  # by name of a test: what was begun, while nothing is told of it
 RECORDED_LATE = "domepeeler: something was recorded after the test had ended, so it was not judged"
 REFUSED_LATE = "domepeeler: a call was refused after the test had ended, so what it says was not judged"
 BEGUN_LATE = "domepeeler: a recording was begun after the test had ended, so it was not judged"
+CUT_SHORT = "domepeeler: pytest ended within the test, so what it recorded was not judged"
+TORN_DOWN = "domepeeler: the test was skipped while it was torn down, so what it recorded was not judged"
+NONE_BEGUN = "the fixture domepeeler began no recording, so nothing was judged"
 State = Tuple[int, List[str]]  # of a recording: how many lines it has, and what is told of calls that were refused
 FIRST_LINES = 2  # of each trace: its version, and how many replicas there are
 
@@ -62,12 +67,14 @@ class Judged:
 
 
 class Begun:
-    """The recordings of a test of which nothing is told yet; whether the test has passed so far, and they are accepted; and whether it has
-    ended, so that nothing judges what begins now."""
+    """The recordings of a test of which nothing is told yet; whether there was any; whether the test has passed so far, and they
+    are accepted; whether it was skipped; and whether it has ended, so that nothing judges what begins now."""
 
     def __init__(self) -> None:
         self.recordings: List[Judged] = []
+        self.has_any = False
         self.has_passed = False
+        self.was_skipped = False
         self.has_ended = False
 
     def numbered(self) -> List[Tuple[Optional[int], Judged]]:
@@ -86,9 +93,11 @@ def domepeeler(request: pytest.FixtureRequest) -> Callable[..., Recording]:
     `stop`, also after each call that takes a list."""
     begun = Begun()
     setattr(request.node, BEGUN, begun)
+    open_ones(request.config)[request.node.nodeid] = begun
 
     def begin(replicas: int, weak: bool = False, stop: bool = False) -> Recording:
         one = Judged(Recording(replicas, stop=stop, weak=weak and stop), weak)
+        begun.has_any = True
         if begun.has_ended:
             watch(request.config, request.node.nodeid, [one])
         else:
@@ -108,9 +117,18 @@ def pytest_runtest_call(item: pytest.Item) -> None:
 @pytest.hookimpl(trylast=True)  # after all fixtures were torn down, if that went well
 def pytest_runtest_teardown(item: pytest.Item) -> None:
     begun: Begun = getattr(item, BEGUN, Begun())
-    if not begun.has_passed:
+    if not begun.has_passed and not begun.was_skipped:
         return
     fail_by_faults(item, begun)
+    if begun.has_passed:
+        tell_of_passed(item, begun)
+    begun.has_ended = True
+    watch(item.config, item.nodeid, begun.recordings)
+    begun.recordings = []
+
+
+def tell_of_passed(item: pytest.Item, begun: Begun) -> None:
+    """Removes what was saved of a test that has passed, and warns of what its recordings may hide, and where there is none."""
     remove_saved(item, begun)
     if any(one.is_weak_alone for one in begun.recordings):
         item.add_report_section("teardown", "domepeeler", WEAK_ALONE)
@@ -118,11 +136,16 @@ def pytest_runtest_teardown(item: pytest.Item) -> None:
         for one in begun.recordings:
             for told in one.warnings:
                 item.warn(NothingRecorded(told) if one.state and one.state[0] == FIRST_LINES else Unsure(told))
+        if hasattr(item, BEGUN) and not begun.has_any:
+            item.warn(NothingRecorded(NONE_BEGUN))
     except Unsure as why:  # where warnings are errors
         pytest.fail(f"{type(why).__name__}: {why}", pytrace=False)
-    begun.has_ended = True
-    watch(item.config, item.nodeid, begun.recordings)
-    begun.recordings = []
+
+
+def open_ones(config: pytest.Config) -> Dict[str, Begun]:
+    if not hasattr(config, OPEN):
+        setattr(config, OPEN, {})
+    return cast(Dict[str, Begun], getattr(config, OPEN))
 
 
 def watch(config: pytest.Config, test: str, recordings: List[Judged]) -> None:
@@ -143,6 +166,7 @@ def grown(test: str, one: Judged) -> List[str]:
 def pytest_sessionfinish(session: pytest.Session) -> None:
     config = session.config
     told = getattr(config, GROWN, []) + [line for test, one in getattr(config, ENDED, []) for line in grown(test, one)]
+    told += [f"{test} - {CUT_SHORT}" for test, begun in open_ones(config).items() if begun.recordings]
     setattr(config, GROWN, told)
     if hasattr(config, "workeroutput"):  # a worker of pytest-xdist, whose status and summary nobody sees
         config.workeroutput[GROWN] = told
@@ -170,8 +194,13 @@ def pytest_runtest_makereport(item: pytest.Item, call: pytest.CallInfo[None]) ->
         told = [told_of(item, one, number, True, known) for number, one in begun.numbered()]
         report.sections.append(("Domepeeler", "\n\n".join(told)))
         begun.recordings = []
-    if call.when == "teardown":  # of a test that has failed, or was skipped, too
+    if report.skipped and not hasattr(report, "wasxfail"):
+        begun.was_skipped = True
+    if call.when == "teardown":  # of a test that has failed, or was expected to, too
         begun.has_ended = True
+        if (begun.has_passed or begun.was_skipped) and any(one.state != state_of(one.recording) for one in begun.recordings):
+            setattr(item.config, GROWN, getattr(item.config, GROWN, []) + [f"{item.nodeid} - {TORN_DOWN}"])
+        open_ones(item.config).pop(item.nodeid, None)
 
 
 def fail_by_faults(item: pytest.Item, begun: Begun) -> None:
