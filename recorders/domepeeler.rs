@@ -736,9 +736,10 @@ impl Recording {
     }
 
     /// For a test: panics unless the program accepts the recording and no warning says what that may hide, with the warnings and the words
-    /// of `explain`. It judges what is recorded by then: what comes later wants another call. It panics because `cargo test` hides what a test that passes writes to standard error. The trace is then saved below
-    /// the folder `failed_traces`, by the name of the test, and where no tool explains it, the verdict stands in the place of the words.
-    /// Of a recording of nothing it panics with the warning alone, and saves no trace.
+    /// of `explain`. It judges what is recorded by then: what comes later wants another call. It panics because `cargo test` hides what a
+    /// test that passes writes to standard error. The trace is then saved below the folder `failed_traces`, by the name of the test, and
+    /// where no tool explains it, the verdict stands in the place of the words. Of a recording of nothing it panics with the warning alone,
+    /// and saves no trace.
     #[track_caller]
     pub fn assert_accepted(&self) {
         self.assert_right(Verdict::is_accepted, &[]);

@@ -203,6 +203,38 @@ process.stdout.write(recording.text())
 TAKEN = ("false \nfalse \ntrue a b not a\nRefused\ntrace 1\nreplicas 3\n0 ins a 0 : a\n0 ins b 1 : a b\n1 recv 0 1\n1 recv 0 2\n1 del a : b\n"
          "2 recv 0 1\n2 recv 0 2\n2 recv 1 1\n")
 
+# The same in Rust.
+TAKING_OF_RUST = """
+mod take;
+use domepeeler::{Recording, Refused};
+use take::{take, Update};
+
+fn main() -> Result<(), Refused> {
+    let (mut recording, mut waiting, mut taken) = (Recording::new(3)?, Vec::new(), Vec::new());
+    let update = |recording: &Recording, author: usize, message| -> Result<_, Refused> {
+        Ok(Update { author, clock: recording.clock(author)?, changes: 1, message })
+    };
+    recording.insert(0, "a", 0, &["a"])?;
+    let mut updates = vec![update(&recording, 0, "a")?];
+    recording.insert(0, "b", 1, &["a", "b"])?;
+    updates.push(update(&recording, 0, "b")?);
+    for Update { author, clock, .. } in &updates {
+        recording.received_clock(1, *author, clock, 1)?;
+    }
+    recording.delete(1, "a", &["b"])?;
+    updates.push(update(&recording, 1, "not a")?);
+    while let Some(update) = updates.pop() {
+        waiting.push(update);
+        let all = take(&mut recording, 2, &mut waiting, |message| taken.push(message))?;
+        println!("{all} {}", taken.join(" "));
+    }
+    let wrong = take(&mut recording, 2, &mut vec![Update { author: 1, clock: vec![], changes: 1, message: "c" }], |_| ());
+    println!("{}", if matches!(wrong, Err(Refused::NotCausal { .. }) | Ok(_)) { "taken" } else { "Refused" });
+    print!("{}", recording.text());
+    Ok(())
+}
+"""
+
 # What a test of CommonJS has in the place of `import`, by the package's README.
 COMMON = "(async () => {{ {line}; console.log(new Recording(2).text()) }})()"
 
@@ -1444,6 +1476,10 @@ def check_rust(tally: Tally, place: Place) -> None:
     done = place.run(["cargo", "run", "--offline", "--quiet", "--", place.make("no_explainer", NO_EXPLAINER, 0o755)], "rust")
     check_used(tally, "Rust", done)
     check_beside(tally, place, "Rust", [str(place.folder / "rust/target/debug/own")], "rust")
+    place.make("rust/src/bin/taking/main.rs", TAKING_OF_RUST)
+    place.make("rust/src/bin/taking/take.rs", example("rust", "use domepeeler::{Recording, Refused};"))
+    done = place.run(["cargo", "run", "--offline", "--quiet", "--bin", "taking"], "rust")
+    tally.check("Rust: README's way for a network that delivers in any order", done.stdout == TAKEN, done.stdout)
 
 
 def check_proptest(tally: Tally, place: Place) -> None:
