@@ -527,7 +527,7 @@ are found.  With WEAK the weak list specification alone is asked for."
                                  (cl-loop for (name . id) in (domepeeler-ids recording)
                                           when (and (string-prefix-p "long" name) (gethash name words))
                                           collect (format "%s: %s" name (domepeeler--escaped id))))
-            (domepeeler--section "Noted" (reverse (domepeeler-recording-notes recording)))
+            (domepeeler--section "Your notes" (reverse (domepeeler-recording-notes recording)))
             (substring said last))))
 
 (defvar domepeeler-weak nil

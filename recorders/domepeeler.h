@@ -1804,7 +1804,7 @@ static inline char *domepeeler_with_ids(struct domepeeler *d, char *said) {
     for (size_t i = 0; i < d->noted; i++) {
         const char *note = d->notes[i];
         size_t first = domepeeler_command(note);
-        domepeeler_say(&whole, "%s  %.*s", i ? "" : "\nNoted\n", (int)first, note);
+        domepeeler_say(&whole, "%s  %.*s", i ? "" : "\nYour notes\n", (int)first, note);
         if (note[first]) domepeeler_say(&whole, "\\x%02x%s", (unsigned char)note[first], note + first + 1);
         domepeeler_say(&whole, "\n");
     }

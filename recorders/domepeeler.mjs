@@ -399,7 +399,7 @@ export class Recording {
     const words = new Set(done.stdout.match(/[A-Za-z0-9]+/g))
     const named = [...this.ids()].filter(([short]) => words.has(short) && short.startsWith("long"))
     const told = named.map(([short, given]) => `${short}: ${escaped(given)}`)
-    return beforeLast(this.#withPlaces(node, done.stdout), section("Ids that were too long for a name", told) + section("Noted", this.#notes))
+    return beforeLast(this.#withPlaces(node, done.stdout), section("Ids that were too long for a name", told) + section("Your notes", this.#notes))
   }
 
   // What puts behind each line of the trace that a warning names in brackets its nearest place in your code or log.

@@ -412,7 +412,7 @@ class Recording:
         said = done.stdout.decode(errors="replace")
         words = set(re.findall("[A-Za-z0-9]+", said))
         told = [f"{name}: {_escaped(given)}" for name, given in self.ids().items() if name in words and name.startswith("long")]
-        return _before_last(self._with_places(said), _section("Ids that were too long for a name", told) + _section("Noted", self._notes))
+        return _before_last(self._with_places(said), _section("Ids that were too long for a name", told) + _section("Your notes", self._notes))
 
     def _with_nearest(self, warnings: str) -> str:
         """The warnings, with the nearest place in your code or log of each line of the trace that they name in brackets."""

@@ -839,7 +839,7 @@ impl Recording {
         let words: HashSet<&str> = said.split(|letter: char| !letter.is_ascii_alphanumeric()).collect();
         let ids = self.ids().into_iter().filter(|(name, _)| words.contains(name) && name.starts_with("long"));
         let long = section("Ids that were too long for a name", ids.map(|(name, id)| format!("{name}: {}", escaped(id))));
-        let noted = section("Noted", self.notes.iter().cloned());
+        let noted = section("Your notes", self.notes.iter().cloned());
         let code = section("In your code", self.places_named(&said));
         let told = self.with_places(&said);
         let (words, last) = told.split_at(told.rfind(LAST).unwrap_or(told.len()));

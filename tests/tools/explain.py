@@ -62,7 +62,7 @@ def stop(line: int, doing: str, *others: int, together: int = 0) -> str:
     doing += f"; if nothing is wrong there, stop at {'another arrival' if len(others) == 1 else 'other arrivals'} ({before})" if others else ""
     asked = f"if recording.lines() == {line - 1}: breakpoint()"
     where = "where your code reads the list" if "reads the list" in doing else "where your code begins to apply a change, local or remote"
-    or_first = f"; or {together - 1}, if lines {together} to {line} were written in one go" if together else ""
+    or_first = f"; or {together - 1}, if one call wrote lines {together} to {line}" if together else ""
     asked = f"if recording.lines() in ({together - 1}, {line - 1}): breakpoint()" if together else asked
     where += f" (the recording has {line - 1} lines then{or_first})"
     return f"|In a debugger|stop before line {line} of the trace, where {doing}. In Python, put this {where}: {asked}"
@@ -84,7 +84,7 @@ WORDS = [
      "a: inserted by 0.1 (line 3)|b: inserted by 1.1 (line 4)|"
      "b arrived at replica 0 in line 5, a at replica 1 in line 6|"
      "Look at the order of concurrent inserts: a and b were inserted at the front without knowing of each other, and were shown in two different orders. "
-     "Use a rule that gives the same order everywhere (such as the replicas' numbers), and not the order of arrival or a number set on arrival. No fast path may skip that rule.|"
+     "Use a rule that gives the same order everywhere (such as the replicas' numbers), and not each replica's order of arrival or a number set on arrival. No fast path may skip that rule.|"
      "If the list is sorted by position identifiers, look at those of a and b: are the two equal, does one differ between replicas, or are numbers "
      "compared as text?" + stop(6, "replica 1 applies 0.1", 5)),
     ("a replica that turns two elements round when it deletes another", 2, "0 ins a 0 : a|1 ins b 0 : b|1 recv 0 1|1 read : a b|1 ins c 2 : a b c|1 del c : b a",
@@ -111,10 +111,10 @@ WORDS = [
      "before the change is applied. Or it deleted another element, one that was already deleted there: look at how a replica that applies a delete finds the "
      "element (is the whole id compared?)." + stop(11, "replica 1 applies 0.5")),
     ("a delete that takes its neighbour along", 2, "0 ins a 0 : a|0 ins b 1 : a b|0 ins c 2 : a b c|1 recv 0 3|1 read : a b c|0 del a : b c|1 recv 0 4|1 read : c",
-     "Where to look|It looks as if 0.4 (line 8), applied at replica 1, deleted b too: b stood there in 1.1 (line 7), and no change that has come since deletes "
+     "Where to look|It looks as if 0.4 (line 8), applied at replica 1, deleted b along with a: b stood there in 1.1 (line 7), and no change that has come since deletes "
      "it. Look at where the replica begins to delete there, and at how many elements it deletes." + stop(9, "replica 1 applies 0.4")),
     ("a delete that takes two others along at its author's", 1, "0 ins a 0 : a|0 ins b 1 : a b|0 ins c 2 : a b c|0 del a :",
-     "Where to look|It looks as if 0.4 (line 6), applied at replica 0, deleted b and c too: b and c stood there in 0.3 (line 5), and no change that has come since deletes "
+     "Where to look|It looks as if 0.4 (line 6), applied at replica 0, deleted b and c along with a: b and c stood there in 0.3 (line 5), and no change that has come since deletes "
      "them. Look at where the replica begins to delete there, and at how many elements it deletes." + stop(6, "replica 0 deletes a")),
     ("an insert that stands too far behind, though its name has the greater number", 1, "0 ins e1-0 0 : e1-0|0 ins e2-0 1 : e1-0 e2-0|0 del e1-0 : e2-0|0 ins e4-0 0 : e2-0 e4-0",
      "asked for: position 0; the answer has [e2-0] there|found at: position 1||Where to look|"
@@ -127,7 +127,7 @@ WORDS = [
      "[b] before [a]: line 7, 0.2: replica 0 read the list, answered [b] [a]|"
      "a arrived at replica 1 in line 4, b at replica 0 in line 6|"
      "Look at where a replica places an incoming insert: replica 1 had [a] already when it inserted [b] (1.1, line 5), and so settled the "
-     "order of the two; yet two responses differ about it. Often the clock that decides between inserts does not advance when changes arrive, or the neighbour is not found; or elements are stored in runs, and a run is split at another place than behind the neighbour (deleted elements count too).|"
+     "order of the two; yet two responses differ about it. Often the clock that decides between inserts does not advance when changes arrive, or the neighbour is not found; or elements are stored in runs (blocks of several), and a run is split at a wrong place: deleted elements count too.|"
      "If the list is sorted by position identifiers, print those of a and b at line 5. If they do not rise in this order, look at how the "
      "one of b was made; if they do, at how identifiers are compared (numbers must not be compared as text)." + stop(6, "replica 0 applies 1.1", 4)),
     ("three-way cycle", 3, THREE_WAY,
@@ -140,11 +140,10 @@ WORDS = [
      "b was put behind x. When it arrived at replica 0 in line 10, x was already deleted there by 0.2 (line 8)|"
      "x arrived at replica 1 in line 4, x at replica 2 in line 5, a at replica 0 in line 9, b at replica 0 in line 10|"
      "Look at positions beside deleted elements: any two of 2.1, 0.3 and 1.1 fit together, all three don't; perhaps an insert lost its place "
-     "because its neighbour was deleted elsewhere. The lines above say which elements each response no longer has.|"
+     "because its neighbour was deleted meanwhile. Look first at where replica 0 placed b in line 10, beside x, which had been deleted there.|"
      "If the list is sorted by position identifiers, look at those of x, b and a: are two of them equal, does one differ between replicas, or are numbers "
      "compared as text?|"
-     "An editor whose server orders all changes, as Jupiter's does, promises only the weak list specification, and up to line 11 that "
-     "holds. To ask for that only, use --weak."
+     "An editor whose server orders all changes, as Jupiter's does, promises only the weak list specification, which holds here. If yours is such a one, nothing is wrong here: ask for weak alone, in the tools by --weak."
      + stop(10, "replica 0 applies 2.1", 9, 5, 4, together=9)),
     ("an insert that arrives beside a deleted element", 2, BESIDE_DELETED,
      "[d] before [c]: line 9 of the trace, 0.3: replica 0 inserted d at position 1, answered b [d] [c]|"
@@ -155,7 +154,7 @@ WORDS = [
      "If inserts find their place by a neighbour, look at inserts beside deleted elements: the lines "
      "above name an insert that arrived where its neighbour had been deleted. If replicas throw deleted elements away, nothing says then where the insert belongs; if they keep them, the search for its place must treat them like elements that are shown.|"
      "Look at where a replica places an incoming insert: replica 0 had [c] already when it inserted [d] (0.3, line 9), and so settled the "
-     "order of the two; yet two responses differ about it. Often the clock that decides between inserts does not advance when changes arrive, or the neighbour is not found; or elements are stored in runs, and a run is split at another place than behind the neighbour (deleted elements count too).|"
+     "order of the two; yet two responses differ about it. Often the clock that decides between inserts does not advance when changes arrive, or the neighbour is not found; or elements are stored in runs (blocks of several), and a run is split at a wrong place: deleted elements count too.|"
      "If the list is sorted by position identifiers, print those of b, d and c at line 9. If they do not rise in this order, look at how "
      "the one of d was made; if they do, at how identifiers are compared (numbers must not be compared as text).|If the editor "
      "sends positions, the position of d was perhaps not adjusted for the delete of b by 1.2 (line 8), which replica 1 knew and the author of d did not." + stop(10, "replica 1 applies 0.3", 6)),
@@ -164,11 +163,11 @@ WORDS = [
      "1.2 (line 7) shows [c] between [a] and [b], which was put directly behind [a]; the author of [c] knew neither. If inserts find their place by a "
      "neighbour, look at how [c] found its place there: if the search skips [a], it must also skip all that was put behind [a].|"
      "Look at the order of concurrent inserts: b and c were inserted without knowing of each other, and were shown in two different orders. Use a rule that "
-     "gives the same order everywhere (such as the replicas' numbers), and not the order of arrival or a number set on arrival. No fast path may skip that rule."),
+     "gives the same order everywhere (such as the replicas' numbers), and not each replica's order of arrival or a number set on arrival. No fast path may skip that rule."),
     ("an insert behind what the other author did not know, which is deleted", 2, "0 ins a 0 : a|0 ins b 1 : a b|0 del a : b|1 ins c 0 : c|1 recv 0 3|"
      "1 read : c b|0 recv 1 1|0 read : b c", "Where to look|"
      "Look at the order of concurrent inserts: b and c were inserted without knowing of each other, and were shown in two different orders. Use a rule that "
-     "gives the same order everywhere (such as the replicas' numbers), and not the order of arrival or a number set on arrival. No fast path may skip that rule.|"
+     "gives the same order everywhere (such as the replicas' numbers), and not each replica's order of arrival or a number set on arrival. No fast path may skip that rule.|"
      "[b] was put directly behind [a]; the author of [c] did not know [a]. If inserts find their place by a neighbour, look at how [c] found its "
      "place: if the search skips [a], it must also skip all that was put behind [a]."),
     ("an insert between two that are deleted by others", 3, "0 ins a 0 : a|0 ins b 1 : a b|1 recv 0 2|2 recv 0 2|2 ins c 1 : a c b|1 del a : b|"
@@ -179,8 +178,8 @@ WORDS = [
      "9)|c arrived at replica 1 in line 13, d at replica 2 in line 15"),
     ("a session that goes on", 2, f"{BESIDE_DELETED}|0 recv 1 2|0 read : d c|1 read : c d",
      "When it went wrong|line 11 of the trace, 1.3: replica 1 read the list. Up to line 10 the session is accepted; line 11 leads to `refused 2`|"
-     "before it: replica 1's 1.2 (line 8) fits; since then it received 0.3 (line 10)|"
-     "by the receipts, replicas 0 and 1 have every change in the end, and show the same elements in different orders||"
+     "before it: replica 1's 1.2 (line 8) answered c, which fits; since then it received 0.3 (line 10)|"
+     "in the end replicas 0 and 1 have every change, as the receipts say, and show the same elements in different orders||"
      "What these responses show: a circle, which no order allows|"
      "[d] before [c]: line 9, 0.3: replica 0 inserted d at position 1, answered b [d] [c]|"
      "[c] before [d]: line 11, 1.3: replica 1 read the list, answered [c] [d]||The elements|"
@@ -188,15 +187,15 @@ WORDS = [
      "Where to look" + stop(10, "replica 1 applies 0.3", 6)),
     ("a session that goes on, with one list in the end", 2, f"{BESIDE_DELETED}|0 recv 1 2|0 read : c d",
      "When it went wrong|line 11 of the trace, 1.3: replica 1 read the list. Up to line 10 the session is accepted; line 11 leads to `refused 2`|"
-     "before it: replica 1's 1.2 (line 8) fits; since then it received 0.3 (line 10)|"
-     "by the receipts, replicas 0 and 1 have every change in the end, and show the same list||Where to look" + stop(10, "replica 1 applies 0.3", 6)),
+     "before it: replica 1's 1.2 (line 8) answered c, which fits; since then it received 0.3 (line 10)|"
+     "in the end replicas 0 and 1 have every change, as the receipts say, and show the same list||Where to look" + stop(10, "replica 1 applies 0.3", 6)),
     ("a beginning that shows something else", 3, f"{THREE_WAY}|1 recv 0 2|1 recv 2 1|1 read : a b",
      "refused 3: three responses can't be right together. Any two of them can. This is what went wrong first, within the "
      "first 11 lines. The verdict on the whole trace is `refused 2` (told below).||"
      "When it went wrong|line 11 of the trace, 0.3: replica 0 read the list. Up to line 10 the session is accepted; line 11 leads to "
      "`refused 3`|"
-     "before it: replica 0's 0.2 (line 8) fits; since then it received 1.1 (line 9), 2.1 (line 10)|"
-     "by the receipts, replicas 0 and 1 have every change in the end, and show the same elements in different orders||"
+     "before it: replica 0's 0.2 (line 8) answered (nothing), which fits; since then it received 1.1 (line 9), 2.1 (line 10)|"
+     "in the end replicas 0 and 1 have every change, as the receipts say, and show the same elements in different orders||"
      "What these responses show: a circle, which no order allows|"
      "[x] before [b]: line 7, 2.1: replica 2 inserted b at position 1, answered [x] [b]|"
      "[b] before [a]: line 11, 0.3: replica 0 read the list, answered [b] [a]|"
@@ -205,12 +204,8 @@ WORDS = [
      "x arrived at replica 1 in line 4, x at replica 2 in line 5, a at replica 0 in line 9, b at replica 0 in line 10||"
      "Where to look|"
      "Look at positions beside deleted elements: any two of 2.1, 0.3 and 1.1 fit together, all three don't; perhaps an insert lost its place "
-     "because its neighbour was deleted elsewhere. The lines above say which elements each response no longer has.|"
-     "For the verdict on the whole trace (below): if inserts find their place by a neighbour, look at inserts beside deleted elements: the lines "
-     "above name an insert that arrived where its neighbour had been deleted. If replicas throw deleted elements away, nothing says then where the insert belongs; if they keep them, the search for its place must treat them like elements that are shown.|"
-     "For the verdict on the whole trace (below): look at the order of concurrent inserts: a and b were inserted without knowing of each other, and were shown in two "
-     "different orders. Use a rule that gives the same order everywhere (such as the replicas' numbers), and not the order of "
-     "arrival or a number set on arrival. No fast path may skip that rule.|For the verdict on the whole trace (below): if the editor sends positions, the position of b was perhaps not adjusted for the delete of x by 0.2 (line 8), which replica 1 "
+     "because its neighbour was deleted meanwhile. Look first at where replica 0 placed b in line 10, beside x, which had been deleted there.|"
+     "For the verdict on the whole trace (told below): look at where a replica places an incoming insert beside a deleted element: a was put before x (1.1, line 6), and b behind it (2.1, line 7), so x settles their order, also where it is deleted; yet they were shown in two different orders. No rule for concurrent inserts at one place may decide here.|For the verdict on the whole trace (told below): if the list is sorted by position identifiers, look at those of a and b: are the two equal, does one differ between replicas, or are numbers compared as text?|For the verdict on the whole trace (told below): if the editor sends positions, the position of b was perhaps not adjusted for the delete of x by 0.2 (line 8), which replica 1 "
      "knew and the author of b did not; or the position of the delete was not adjusted for an insert that the author of the delete had not seen.|"
      "" + stop(10, "replica 0 applies 2.1", 9, 5, 4, together=9) + "||What the whole trace shows: a circle, which no order allows|"
      "[a] before [b]: line 14, 1.2: replica 1 read the list, answered [a] [b]|"
@@ -250,10 +245,10 @@ WORDS = [
      "line 7 of the trace, 2.1: replica 2 read the list|answered: b|it should hold, in any order: b [a]|"
      "before it: replica 2 did nothing, and received 1.1 (line 6)|Missing|"
      "[a] inserted by 0.1 (line 3), which arrived at replica 1 in line 4 (1 recv 0 1), and "
-     "counts as arrived at replica 2 with 1.1, which had it, in line 6 (2 recv 1 1)|[a] 0.1 has no receipt of its own at replica 2, and counts as arrived with 1.1, in line 6, since the author of 1.1 had 0.1. If "
+     "counts as arrived at replica 2 with 1.1, whose author had it, in line 6 (2 recv 1 1)|[a] 0.1 has no receipt of its own at replica 2, and counts as arrived with 1.1, in line 6, since the author of 1.1 had 0.1. If "
      "each operation travels by itself, 1.1 arrived without 0.1: that is not causal order|[a] no operation deletes it||Where to look|"
      "Look first at whether 0.1 was lost on its way to replica 2: no receipt there names it. If it was not lost but overtaken, look at the order in which "
-     "operations arrive. Apply an operation only after everything that its author had seen, or send all of that together with it. If the editor itself holds "
+     "operations arrive. The engine may be right: operations must arrive in causal order. Apply an operation only after everything that its author had seen, or send all of that together with it. If the editor itself holds "
      f"operations back, write the receipt of each only when it is applied. {GUIDE} shows what to record in each case."),
     ("an element lost that arrived after what had seen it", 3,
      "0 ins a 0 : a|1 recv 0 1|1 ins b 1 : a b|2 recv 1 1|2 recv 0 1|2 read : b",
@@ -265,7 +260,7 @@ WORDS = [
     ("an element of one's own lost, whose delete has not arrived", 2, "0 ins a 0 : a|1 recv 0 1|1 del a :|0 read :|0 recv 1 1",
      "contents 0.2: this response lacks one element that replica 0 should have had by then.|"
      "answered: (nothing)|it should hold, in any order: [a]|"
-     "before it: replica 0's 0.1 (line 3) is right; since then it received nothing|"
+     "before it: replica 0's 0.1 (line 3) answered [a], which is right; since then it received nothing|"
      "[a] inserted by 0.1 (line 3), an earlier operation of replica 0|"
      "[a] deleted by 1.1 (line 5), and replica 0's first receipt of 1.1 is line 7 (0 recv 1 1), after this response" + stop(6, "replica 0 reads the list")),
     ("a deleted element shown", 2, "0 ins a 0 : a|0 del a :|1 recv 0 2|1 read : a",
@@ -307,13 +302,13 @@ WORDS = [
     ("a deleted element in a view", 1, "0 ins a 0 : a|0 ins b 1 : a b|0 del a : b|0 view : a",
      "contents 0.4: this view has one element that should not be there.|"
      "line 6 of the trace, 0.4: replica 0 showed a part of the list|answered: [a]|it may hold any part of what replica 0 had by then: b|"
-     "before it: replica 0's 0.3 (line 5) is right; since then it received nothing|Extra|"
+     "before it: replica 0's 0.3 (line 5) answered b, which is right; since then it received nothing|Extra|"
      "[a] inserted by 0.1 (line 3), an earlier operation of replica 0|[a] deleted by 0.3 (line 5), an earlier operation of replica 0"),
     ("a name twice in a view", 1, "0 ins a 0 : a|0 view : a a", "answered: [a] [a]|it may hold any part of what replica 0 had by then: a|"
      "Named more than once|[a] inserted by 0.1 (line 3), an earlier operation of replica 0"),
     ("a read after a view", 1, "0 ins a 0 : a|0 view :|0 read :",
      "contents 0.3: this response lacks one element that replica 0 should have had by then.|"
-     "answered: (nothing)|it should hold, in any order: [a]|before it: replica 0's 0.2 (line 4) is right; since then it received nothing|Missing"),
+     "answered: (nothing)|it should hold, in any order: [a]|before it: replica 0's 0.2 (line 4) answered (nothing), which is right; since then it received nothing|Missing"),
     ("a view against an insert", 2, "0 ins a 0 : a|0 ins b 1 : a b|0 ins c 2 : a b c|1 recv 0 3|1 view : c a",
      "refused 2: two responses can't be right together.|"
      "[a] before [c]: line 5 of the trace, 0.3: replica 0 inserted c at position 2, answered [a] b [c]|"
@@ -347,7 +342,7 @@ WORDS = [
     ("a second delete of one element takes its neighbour", 2, "0 ins a 0 : a|0 ins b 1 : a b|1 recv 0 2|1 read : a b|0 del a : b|1 del a : b|"
      "1 recv 0 3|1 read :",
      "contents 1.3: this response lacks one element that replica 1 should have had by then.|answered: (nothing)|"
-     "it should hold, in any order: [b]|before it: replica 1's 1.2 (line 8) is right; since then it received 0.3 (line 9)|"
+     "it should hold, in any order: [b]|before it: replica 1's 1.2 (line 8) answered [b], which is right; since then it received 0.3 (line 9)|"
      "Missing|[b] inserted by 0.2 (line 4), which arrived at replica 1 in line 5 (1 recv 0 2)|"
      "[b] was put behind a. When it arrived at replica 1 in line 5, a was still there|[b] no operation deletes it||"
      "Where to look|"
@@ -372,7 +367,7 @@ WORDS = [
      "contents 1.1: this response lacks one element that replica 1 should have had by then.|Missing|"
      "[b] inserted by 0.2 (line 4), which counts as arrived at replica 1 with 0.3 in line 7 (1 recv 0 3)|"
      "[b] 0.2's own receipt comes only in line 9 (1 recv 0 2). 0.3 overtook it in line 7: that is not causal order|[b] no operation deletes it|"
-     "Look at the order in which operations arrive: 0.2 was overtaken, as told above. Apply an operation only after everything that its author had seen, or send all of that together with it. If the editor itself holds "
+     "Look at the order in which operations arrive: 0.2 was overtaken, as told above. The engine may be right: operations must arrive in causal order. Apply an operation only after everything that its author had seen, or send all of that together with it. If the editor itself holds "
      f"operations back, write the receipt of each only when it is applied. {GUIDE} shows what to record in each case."
      + stop(7, "replica 1 applies 0.3", together=6)),
     ("a change without a receipt, as each other of its author has one", 2, "0 ins a 0 : a|0 ins b 1 : a b|0 ins c 2 : a b c|0 ins d 3 : a b c d|1 recv 0 1|"
@@ -390,20 +385,21 @@ WORDS = [
      "Look first at whether 0.2 (line 4) was lost on its way to replica 1, or overtaken: no receipt there names it, though all other changes of "
      "replica 0 have one. In an editor that sends positions, later changes then land in the wrong place.|"
      "Look at the order of concurrent inserts: c and y were inserted directly behind a without knowing of each other, and were shown in two different orders. Use a "
-     "rule that gives the same order everywhere (such as the replicas' numbers), and not the order of arrival or a number set on arrival. No fast path may skip that rule."),
+     "rule that gives the same order everywhere (such as the replicas' numbers), and not each replica's order of arrival or a number set on arrival. No fast path may skip that rule."
+     + stop(4, "replica 0 inserts b, and follow 0.2 to replica 1")),
     ("a delete that meets an insert and a delete which did not know each other", 2, "0 ins a 0 : a|0 ins b 1 : a b|0 ins c 2 : a b c|1 recv 0 3|"
      "1 read : a b c|0 del a : b c|1 ins d 3 : a b c d|0 recv 1 2|0 read : b c d|1 del c : a b d|0 recv 1 3|0 read : b c",
      "It looks as if 1.3 (line 12), applied at replica 0, deleted d instead of c: look at how a replica that applies a delete finds the element, and at whether the recorder "
-     "names the element that was deleted.|If the editor sends positions, the position of 1.3 was perhaps not adjusted for the delete of a by 0.4 (line 8), which the author of 1.3 had not seen; or an insert that came there before was not adjusted for a delete that its author had not seen." + stop(13, "replica 0 applies 1.3")),
+     "writes the name of the element that was deleted.|If the editor sends positions, the position of 1.3 was perhaps not adjusted for the delete of a by 0.4 (line 8), which the author of 1.3 had not seen; or an insert that replica 0 received before was not adjusted for a delete that its author had not seen." + stop(13, "replica 0 applies 1.3")),
     ("a delete that takes what is deleted later", 2, "0 ins a 0 : a|0 ins b 1 : a b|1 recv 0 2|1 read : a b|1 del a : b|0 ins c 0 : c a b|0 recv 1 2|"
      "0 read : a b|0 del c : a b",
      "It looks as if 1.2 (line 7), applied at replica 0, deleted c instead of a: look at how a replica that applies a delete finds the element, and at whether the recorder "
-     "names the element that was deleted.|If the editor sends positions, the position of 1.2 was perhaps not adjusted for the insert of c by 0.3 (line 8), which the author of 1.2 had not seen." + stop(9, "replica 0 applies 1.2")),
+     "writes the name of the element that was deleted.|If the editor sends positions, the position of 1.2 was perhaps not adjusted for the insert of c by 0.3 (line 8), which the author of 1.2 had not seen." + stop(9, "replica 0 applies 1.2")),
     ("an insert that another one at its place has shifted", 2, "0 ins b 0 : b|0 ins c 0 : c b|1 ins a 0 : a|1 recv 0 1|1 read : a b|1 recv 0 2|"
      "1 read : a b c",
      "Look at where a replica places an incoming insert: replica 0 had [b] already when it inserted [c] (0.2, line 4), and so settled the order "
-     "of the two; yet two responses differ about it. Often the clock that decides between inserts does not advance when changes arrive, or the neighbour is not found; or elements are stored in runs, and a run is split at another place than behind the neighbour (deleted elements count too). At the place of c also "
-     "a was inserted, neither knowing of the other. Look also at which of them comes first." + stop(8, "replica 1 applies 0.2", 6)),
+     "of the two; yet two responses differ about it. Often the clock that decides between inserts does not advance when changes arrive, or the neighbour is not found; or elements are stored in runs (blocks of several), and a run is split at a wrong place: deleted elements count too. At the place of c also "
+     "a was inserted, and neither author had the other's insert. Look also at which of them comes first." + stop(8, "replica 1 applies 0.2", 6)),
     ("a receipt that comes before the change is applied", 2, "0 ins a 0 : a|1 recv 0 1|1 read : a|0 ins b 1 : a b|0 del a : b|1 recv 0 3|1 read : a",
      "contents 1.2: this response lacks one element that replica 1 should have had by then, and has one element that should not be there.||"
      "Where to look|"
@@ -416,21 +412,42 @@ WORDS = [
      "late, or names another operation." + stop(8, "replica 1 reads the list")),
     ("an element lost that was there before, beside one that came", 2, "0 ins a 0 : a|1 recv 0 1|1 read : a|0 ins b 1 : a b|1 recv 0 2|1 read : b",
      "Missing|[a] no operation deletes it||Where to look|"
-     "Check three things, one after the other. Recorder: `received` must be called right after the change is applied. Transport: a change must arrive after "
+     "Replica 1 showed a in 1.1 (line 5); since then it only received the insert of b by 0.2 (line 6), and none of what has come deletes it. Look at what 0.2 does there: "
+     "does an arriving state replace the replica's own, or does the editor take back its own changes when others' arrive?|"
+     "If that is not the cause: check three things, one after the other. Recorder: `received` must be called right after the change is applied. Transport: a change must arrive after "
      f"all those that its author had seen. Editor: does it lose a change, apply it twice, or apply it to another element? {GUIDE} says where the calls "
      "go." + stop(7, "replica 1 applies 0.2")),
+    ("an element that no line inserts", 1, "0 ins a 0 : a|0 read : a x",
+     "[x] no operation of this trace inserts it||Where to look|No line inserts x. Perhaps the insert was not recorded, or under another name; or the document was not empty at first: "
+     "then let one replica insert what was there, and the others receive it.|If that is not the cause: check three things, one after the other. Recorder: `received` must be "
+     f"called right after the change is applied. Transport: a change must arrive after all those that its author had seen. Editor: does it lose a change, apply it twice, or apply it "
+     f"to another element? {GUIDE} says where the calls go." + stop(4, "replica 0 reads the list")),
+    ("a deleted element settles the order of two others", 3, "0 ins x 0 : x|1 recv 0 1|2 recv 0 1|1 ins a 0 : a x|2 ins b 1 : x b|0 del x :|1 recv 0 2|1 recv 2 1|1 read : a b|"
+     "0 recv 1 1|0 recv 2 1|0 read : b a", "refused 2: two responses can't be right together.||Where to look|"
+     "Look at where a replica places an incoming insert beside a deleted element: a was put before x (1.1, line 6), and b behind it (2.1, line 7), so x settles their order, also where "
+     "it is deleted; yet they were shown in two different orders. No rule for concurrent inserts at one place may decide here.|"),
+    ("a replica turns round what it inserted itself", 2, "0 ins x 0 : x|1 recv 0 1|1 ins b 1 : x b|1 ins a 0 : a x b|0 del x :|1 recv 0 2|1 read : b a", "Where to look|"
+     "Replica 1 itself changed the order of elements that it had shown: a before b in 1.2 (line 6), b before a in 1.3 (line 9). Between the two it received the delete of x by 0.2 (line 7). "
+     "Look at what decides which of b and a comes first: once both are inserted, it must never change, whatever is inserted, deleted or received later.|"
+     "Replica 1 inserted both b and a itself. If the editor takes back its own changes when others' arrive, and applies them anew (rebasing), look at where that puts them.|"
+     "If the list is sorted by position identifiers, print those of a, x and b at line 6. If they do not rise in this order, look at how the one of a was made; if they do, at how "
+     "identifiers are compared (numbers must not be compared as text)." + stop(8, "replica 1 applies 0.2")),
+    ("a number that does not grow at one replica", 1, "0 ins b 0 : b|0 ins a 0 : b a", "Where to look|"
+     "If the editor decides by numbers (a clock, ids) which of two inserts at one place comes first, look at theirs: a stands behind b, which replica 0 had already. The number that a has "
+     "must be greater than that of b; perhaps it is not. Usual causes: the clock does not advance with each insert; ids are compared as text, so 10 comes before 9.|"),
     ("a wrong response before the one that the program names", 2, "1 ins a 0 : a|1 read :|0 recv 1 1|0 read : a|0 read :|1 read : a",
      "contents 1.2: this response lacks one element that replica 1 should have had by then. This is what went wrong first, within the first 4 lines. The verdict on "
      "the whole trace is `contents 0.2` (told below).||When it went wrong|"
      "line 4 of the trace, 1.2: replica 1 read the list. Up to line 3 the session is accepted; line 4 leads to `contents 1.2`|"
      "the first 4 lines are enough to show it (`head -4`)||The response|line 4 of the trace, 1.2: replica 1 read the list|answered: (nothing)|"
-     "[a] inserted by 1.1 (line 3), an earlier operation of replica 1" + stop(4, "replica 1 reads the list")
-     + "||What the verdict on the whole trace is about|line 7, 0.2: replica 0 read the list, answered (nothing)||The list specifications|"
-     "strong and weak fail"),
+     "[a] inserted by 1.1 (line 3), an earlier operation of replica 1|[a] no operation deletes it||Where to look|"
+     "Replica 1 showed a in 1.1 (line 3), and has received nothing since. Look at what replica 1 itself does between the two." + stop(4, "replica 1 reads the list")
+     + "||What the verdict on the whole trace is about|line 7, 0.2: replica 0 read the list, answered (nothing): this response lacks one element that replica 0 should have had "
+     "by then|it lacks a||The list specifications|by the whole trace, strong and weak fail"),
     ("a delete that meets an insert which did not know it", 2, "0 ins a 0 : a|0 ins b 1 : a b|0 ins c 2 : a b c|1 recv 0 3|1 read : a b c|1 del a : b c|"
      "0 ins d 2 : a b d c|1 recv 0 4|1 read : b c d",
      "Look at where a replica places an incoming insert: replica 0 had [c] already when it inserted [d] (0.4, line 9), and so settled the "
-     "order of the two; yet two responses differ about it. Often the clock that decides between inserts does not advance when changes arrive, or the neighbour is not found; or elements are stored in runs, and a run is split at another place than behind the neighbour (deleted elements count too).|If the editor "
+     "order of the two; yet two responses differ about it. Often the clock that decides between inserts does not advance when changes arrive, or the neighbour is not found; or elements are stored in runs (blocks of several), and a run is split at a wrong place: deleted elements count too.|If the editor "
      "sends positions, the position of d was perhaps not adjusted for the delete of a by 1.2 (line 8), which replica 1 knew and the author of d did not." + stop(10, "replica 1 applies 0.4", 6)),
     ("a delete that becomes nothing beside an insert that its author did not know", 2, "0 ins a 0 : a|1 recv 0 1|1 read : a|0 del a :|"
      "1 ins b 0 : b a|1 recv 0 2|1 read : b a",
@@ -439,7 +456,7 @@ WORDS = [
      "had not seen."),
     ("a delete of one of two that were inserted at one place", 2, "0 ins a 0 : a|0 del a :|1 ins b 0 : b|1 recv 0 1|1 read : a b|1 recv 0 2|1 read : a",
      "It looks as if 0.2 (line 4), applied at replica 1, deleted b instead of a: look at how a replica that applies a delete finds the element, and at whether the recorder "
-     "names the element that was deleted.|If the editor sends positions, the position of 0.2 was perhaps not adjusted for the insert of b by 1.1 (line 5), which the author of 0.2 had not seen. At the place of a also b was inserted, neither knowing of the other. Look also at which of them comes first."),
+     "writes the name of the element that was deleted.|If the editor sends positions, the position of 0.2 was perhaps not adjusted for the insert of b by 1.1 (line 5), which the author of 0.2 had not seen. At the place of a also b was inserted, and neither author had the other's insert. Look also at which of them comes first."),
     ("doubled", 2, "0 ins a 0 : a|0 ins b 1 : a b|1 ins b 0 : b",
      "doubled: 0.2 and 1.1 insert the same name, b. An element is known by its name, so nothing else was judged.|"
      "line 4 of the trace, 0.2: replica 0 inserted b at position 1|line 5, 1.1: replica 1 inserted b at position 0||"
@@ -591,7 +608,7 @@ PLANTED = {
     "clock": (300, 20, ["decides by numbers (a clock, ids) which of two inserts", "the clock that decides between inserts"]),
     "mapping": (150, 40, ["perhaps not adjusted for the delete", "perhaps not adjusted for the insert"]),
     "unmoved": (80, 40, [" was perhaps not adjusted for", "not adjusted for an insert", "not adjusted for inserts"]),
-    "behind": (80, 40, ["order of concurrent inserts", "neither knowing of the other"]),
+    "behind": (80, 40, ["order of concurrent inserts", "had the other's insert", "nor its author theirs"]),
     "twice": (500, 10, ["was already deleted there, by"]),
     "overtaking": (100, 50, ["overtook it in line"]),
     "none": (60, 0, []),
@@ -704,8 +721,8 @@ Extra
 [a] deleted by 0.3 (line 7), which arrived at replica 1 in line 10 (1 recv 0 3), a line that `delivered` wrote
 
 Where to look
-Only `delivered` (line 10) says that 0.2 (line 6) arrived at replica 1; no response before shows it. It was lost, or is held back for ever; \
-0.3 (line 7), which came later, perhaps waits for it. Look at what keeps changes waiting.
+Only `delivered` (line 10) says that 0.2 (line 6) arrived at replica 1; no response before shows it. It was lost, or is held back for ever (\
+0.3 (line 7), made later, perhaps waits for it); or `delivered` was called too early. Look at what keeps changes waiting.
 
 In a debugger
 stop before line 6 of the trace, where replica 0 inserts b, and follow 0.2 to replica 1. In Python, put this where your code begins to apply a change, local or remote (the recording has 5 lines then): \
@@ -1159,18 +1176,18 @@ def places(tally: Tally, program: str, folder: str) -> None:
     for name, wanted in FOR_TWO.items():
         got = explain(program, ["--language", name, "-"], text_of(2, "0 ins a 0 : a|0 ins b 1 : a b|1 recv 0 1|1 recv 0 2|1 read : a").encode()).out.decode()
         tally.check(f"a debugger: {name}, receipts that stand together", paragraph(got, "In a debugger").endswith(
-            f"(the recording has 5 lines then; or 4, if lines 5 to 6 were written in one go): {wanted}"), got)
+            f"(the recording has 5 lines then; or 4, if one call wrote lines 5 to 6): {wanted}"), got)
     undelivered(tally, program, folder)
     path.write_text(text_of(2, PLACED))
     for beside, wanted in NOTES:
         side.write_text(f"7\n{beside}7 a.py:1\n")
         got = explain(program, ["--small", str(smaller), "--html", str(page), str(path)]).out.decode()
-        noted = [line.strip() for line in paragraph(got, "Noted").splitlines()]
+        noted = [line.strip() for line in paragraph(got, "Your notes").splitlines()]
         tally.check(f"noted: {beside[:30]!r}", noted == [line for line in wanted.split("|") if line], got)
         kept = [line for line in Path(f"{smaller}.lines").read_text().splitlines() if line.startswith("note ")]
         tally.check(f"noted: {beside[:30]!r}, beside a small trace", kept == [f"note {line}" for line in noted], kept)
         tree = ElementTree.fromstring(page.read_text())
-        lists = [[told(node) for node in after.iter("li")] for head, after in zip(tree.iter(), by_next(tree)) if told(head) == "Noted"]
+        lists = [[told(node) for node in after.iter("li")] for head, after in zip(tree.iter(), by_next(tree)) if told(head) == "Your notes"]
         tally.check(f"noted: {beside[:30]!r}, on the page", lists == [noted] * bool(noted), lists)
     side.unlink()
 
@@ -1542,7 +1559,7 @@ def planted_bugs(tally: Tally, program: str, folder: str) -> None:
     states = subprocess.run([sys.executable, ROOT / "examples" / "planted" / "whole_states.py", f"{folder}/states.trace"], capture_output=True)
     tally.check("whole states: the example is what the engine records", states.returncode == 0 and Path(folder, "states.trace").read_text() ==
                 (ROOT / "examples" / "whole_states_lost_text.trace").read_text(), states)
-    tally.check("planted: by its own words", done.returncode == 0 and b"overtook it in line" in got.out and b"\n\nNoted\n  planted.py overtaking 1\n\nThe list" in got.out,
+    tally.check("planted: by its own words", done.returncode == 0 and b"overtook it in line" in got.out and b"\n\nYour notes\n  planted.py overtaking 1\n\nThe list" in got.out,
                 (done, got))
 
 

@@ -754,7 +754,7 @@ def places(tally: Tally, program: str, folder: str) -> None:
     Path(folder, "lost.trace.lines").write_text("4\nnote seed 17\n3 t.py:7\n4 t.py:8, called from t.py:9\n")
     judge(program, ["--junit", f"{folder}/junit.xml", folder])
     (failure,) = xml.parse(f"{folder}/junit.xml").getroot().iter("failure")
-    wanted = "\n\nIn your code\n  line 3: t.py:7\n  line 4: t.py:8, called from t.py:9\n\nNoted\n  seed 17\n\nThe list specifications\n  strong and weak fail\n"
+    wanted = "\n\nIn your code\n  line 3: t.py:7\n  line 4: t.py:8, called from t.py:9\n\nYour notes\n  seed 17\n\nThe list specifications\n  strong and weak fail\n"
     tally.check("JUnit's file: places, and the seed", failure.text.endswith(wanted), failure.text)
 
 

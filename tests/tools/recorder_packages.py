@@ -1144,7 +1144,7 @@ def check_ends_of_pytest(tally: Tally, place: Place, command: list) -> None:
     said = dict(zip(*[iter(re.split(r"^_{3,} (.+) _{3,}$", done.stdout.split("= short test summary")[0], flags=re.MULTILINE)[1:])] * 2))
     for name, words in ("ERROR at teardown of test_late", [LOST]), ("ERROR at teardown of test_begun_late", ["contents 0.1: "]), (
             "ERROR at setup of test_set_up", ["no editor", "accepted"]), ("ERROR at teardown of test_skipped_and_wrong", ["contents 0.1: "]), ("ERROR at teardown of test_torn_down", ["no end", "accepted"]), (
-            "test_fails_and_is_right", ["assert 5 == 6", "accepted", "\nNoted\n  seed 17\n"]):
+            "test_fails_and_is_right", ["assert 5 == 6", "accepted", "\nYour notes\n  seed 17\n"]):
         text = said.get(name, "")
         tally.check(f"pytest: {name}", all(word in text for word in words) and "The trace is saved: " in text, (sorted(said), text))
     traces = sorted(path.name for path in kept.iterdir() if path.name.endswith(".trace"))
@@ -1368,7 +1368,7 @@ def check_ends_of_node(tally: Tally, place: Place) -> None:
                                                          if path.name.startswith("ends.test.mjs-") and path.name.endswith(".trace")), "none")
     told = [line.strip() for line in re.findall("^# (.*)", done.stdout, re.MULTILINE)]
     begins = any(line.startswith("fails and is right: accepted") for line in told)
-    tally.check("node --test: an accepted recording of a test that fails by itself", begins and "Noted" in told and "seed 17" in told and
+    tally.check("node --test: an accepted recording of a test that fails by itself", begins and "Your notes" in told and "seed 17" in told and
                 f"The trace is saved: {path}" in told and path.is_file() and path.read_text() == "trace 1\nreplicas 1\n0 read :\n", told)
     tally.check("node --test: Git passes over the folder", (path.parent / ".gitignore").read_text() == "*\n")
     place.make("packed/late.test.mjs", LATE)

@@ -1189,7 +1189,7 @@ def check_grouped(tally: Tally, program: str, folder: Path) -> None:
         done = subprocess.run(words, cwd=place, capture_output=True, text=True, env=surroundings)
         told = [f"  {lines}: {one}\n" for one, lines in zip(places, ["lines 3, 4 and 5", "line 6", "line 7"])]
         tally.check(f"{name}: one place for several lines", done.stdout.startswith("contents 1.1: ") and
-                    done.stdout.endswith(f"\n\nIn your code\n{''.join(told)}\nNoted\n  seed 17\n{FAIL_BOTH}"), done)
+                    done.stdout.endswith(f"\n\nIn your code\n{''.join(told)}\nYour notes\n  seed 17\n{FAIL_BOTH}"), done)
 
 
 # Programs that stop before the entry in line 6, each by the statement of its language as the tool writes it; what is printed there; and
@@ -1489,7 +1489,7 @@ def check_notes(tally: Tally, recorder: Recorder, folder: Path) -> None:
                 len(beside) == 8 + (recorder.language in PLACING), beside)
     asked = f"| asked: --language {LANGUAGES[recorder.language]} -"
     tally.check(f"{recorder.language}: explain ends with the notes, and names the language", got[len(calls):] == [
-        asked, "| ", "| Noted", *(f"|   {note}" for note in [*notes[:4], "\\x3a:stop-commands::ä", "  \\x23#vso[ä]"]), "ok", "ok", asked, "ok"], got)
+        asked, "| ", "| Your notes", *(f"|   {note}" for note in [*notes[:4], "\\x3a:stop-commands::ä", "  \\x23#vso[ä]"]), "ok", "ok", asked, "ok"], got)
 
 
 class Number(int, Enum):
@@ -1577,7 +1577,7 @@ def check_explains_file(tally: Tally, recorder: Recorder, folder: Path) -> None:
     said = [line[2:] for line in got[len(calls) + 1:-1]]
     place = f"driver\\.{recorder.language}:\\d+" if recorder.language in PLACING else ""
     tally.check(f"{recorder.language}: explains a file with warnings", told.returncode == 0 and said == told.stdout.splitlines() and
-                said[-6:] == ["", "Noted", "  seed 17", *(LAST + "  strong and weak hold").split("\n")] and re.search(rf": 0\.2 \(line 5(, .*{place})?\) never arrived at replica 1 ", told.stdout)
+                said[-6:] == ["", "Your notes", "  seed 17", *(LAST + "  strong and weak hold").split("\n")] and re.search(rf": 0\.2 \(line 5(, .*{place})?\) never arrived at replica 1 ", told.stdout)
                 and ("(line 5, " in told.stdout) == (recorder.language in PLACING), (said, told))
     lost = ["new 2", "insert 0 a 0 a", "delivered a /"]
     got = recorder.answers([*map(fields, lost), f"save\t{trace}", "explain"], DOMEPEELER_EXPLAIN=EXPLAIN)
@@ -2283,7 +2283,7 @@ def check_stop(tally: Tally, recorder: Recorder, folder: Path) -> None:
         tally.check(f"{recorder.language}: stops, {name}", answers == wanted, got)
         if at == len(pairs):
             continue
-        told = re.sub(" /  / Noted(?: /   [^/]*)*(?= /  / )", "", told)  # what was noted when it had stopped
+        told = re.sub(" /  / Your notes(?: /   [^/]*)*(?= /  / )", "", told)  # what was noted when it had stopped
         tally.check(f"{recorder.language}: stops, {name}: the words", says.startswith(pairs[at][1]) and says == f"stopped {told}" and
                     (recorder.language == "el" or " / In your code / " in says), got)
     calls = [fields(call) for call in ("stop 2", "insert 0 a 0 a", "received 1 0 1", "read 1 a", "lines")]

@@ -23,8 +23,8 @@ APPLIED_TWICE = ("It looks as if {changes} {were} applied twice at replica {repl
                  "time{back}, and at whether a change that was held back is applied twice: on arrival and again later.")
 OWN_BACK = " (a server may send a replica its own changes back)"
 UNDELIVERED = ("Only `delivered` ({lines}) says that {changes} arrived at replica {replica}; no response before shows {them}. {They} lost, or "
-               "{are} held back for ever{waiting}. Look at what keeps changes waiting.")
-WAITING = "; {others}, which came later, perhaps wait{s} for {it}"
+                  "{are} held back for ever{waiting}; or `delivered` was called too early. Look at what keeps changes waiting.")
+WAITING = " ({others}, made later, perhaps wait{s} for {it})"
 NO_PLACE = (" Perhaps {insert} finds no place there for {element}: its neighbour {neighbours}. An editor that throws deleted elements away too "
             "early loses such an insert or holds it back for ever.")
 NOT_APPLIED = ("It looks as if {changes} {were} not applied at replica {replica}: lost, or held back, or `received` is called before the "
@@ -43,16 +43,23 @@ ELSEWHERE_ONE = {True: "at another replica it has one", False: "at other replica
 NO_RECEIPT = ("It looks as if {changes} {were} applied at replica {replica} without a receipt: the call of `received` is missing, comes "
               "too late, or names another operation.")
 WRONG_DELETE = ("It looks as if {delete}, applied at replica {replica}, deleted {missing} instead of {surplus}: look at how a replica that applies a "
-                "delete finds the element, and at whether the recorder names the element that was deleted.")
+                "delete finds the element, and at whether the recorder writes the name of the element that was deleted.")
 MOVED_DELETE = ("If the editor sends positions, the position of {delete} was perhaps not adjusted for {changes}, which the author of {delete} had "
                 "not seen{back}.{tie}")
-MOVED_BEFORE = "; or an insert that came there before was not adjusted for a delete that its author had not seen"
-PUT_AT_ONCE = " At the place of {element} also {others} {were} inserted, neither knowing of the other. Look also at which of them comes first."
-TOO_MUCH = ("It looks as if {deletes}, applied at replica {replica}, deleted {missing} too: {missing} stood there in {before}, and no change that has come since "
-            "deletes {it}. Look at where the replica begins to delete there, and at how many elements it deletes.")
+MOVED_BEFORE = "; or an insert that replica {replica} received before was not adjusted for a delete that its author had not seen"
+PUT_AT_ONCE = {True: " At the place of {element} also {others} was inserted, and neither author had the other's insert. Look also at which of them comes first.",
+               False: " At the place of {element} also {others} were inserted; their authors did not have {element}, nor its author theirs. Look also at which of "
+                      "them comes first."}
+UNKNOWN = ("No line inserts {names}. Perhaps the insert was not recorded, or under another name; or the document was not empty at first: then let one replica insert "
+           "what was there, and the others receive it.")
+REPLACED = ("Replica {replica} showed {missing} in {before}; since then it only received {came}, and none of what has come deletes {it}. Look at what {came_first} does there: "
+            "does an arriving state replace the replica's own, or does the editor take back its own changes when others' arrive?")
+VANISHED = "Replica {replica} showed {missing} in {before}, and has received nothing since. Look at what replica {replica} itself does between the two."
+TOO_MUCH = ("It looks as if {deletes}, applied at replica {replica}, deleted {missing} along with {theirs}: {missing} stood there in {before}, and no change that "
+            "has come since deletes {it}. Look at where the replica begins to delete there, and at how many elements it deletes.")
 SECOND_DELETE = ("It looks as if {again}, applied at replica {replica}, deleted {missing} instead of {element}: look at how a replica that applies a delete "
                  "finds the element. {element} was already deleted there, by {first}, so look also at what the editor does with a delete whose element is gone.")
-CAUSAL = ("Apply an operation only after everything that its author had seen, or send all of that together with it. If the editor itself holds operations "
+CAUSAL = ("The engine may be right: operations must arrive in causal order. Apply an operation only after everything that its author had seen, or send all of that together with it. If the editor itself holds operations "
           f"back, write the receipt of each only when it is applied. {GUIDE} shows what to record in each case.")
 OVERTAKEN = "Look at the order in which operations arrive: {name} was overtaken, as told above. " + CAUSAL
 LOST_OR_OVERTAKEN = ("Look first at whether {name} was lost on its way to replica {replica}: no receipt there names it. If it was not lost but overtaken, "
@@ -61,7 +68,7 @@ LOST_NEIGHBOUR = ("If inserts find their place by a neighbour, look at inserts b
                   "already deleted there, as told above. An editor that throws deleted elements away too early finds no place for it, and loses it or "
                   "holds it back for ever.")
 NUMBERS_OF_INSERTS = (" Often the clock that decides between inserts does not advance when changes arrive, or the neighbour is not found; or elements are stored "
-                      "in runs, and a run is split at another place than behind the neighbour (deleted elements count too).")
+                      "in runs (blocks of several), and a run is split at a wrong place: deleted elements count too.")
 IDENTIFIERS = ("If the list is sorted by position identifiers, print those of {names} at line {line}. If they do not rise in this order, look at how the "
                "one of {element} was made; if they do, at how identifiers are compared (numbers must not be compared as text).")
 SORTED = ("If the list is sorted by position identifiers, look at those of {names}: are {two} equal, does one differ between "
@@ -73,23 +80,28 @@ MAPPING = ("Look at how the position that a user sees is mapped to a place in th
            "recorder writes the position that was asked for.")
 NUMBERS = ("If the editor decides by numbers (a clock, ids) which of two inserts at one place comes first, look at theirs: {element} stands behind "
            "{passed}, which replica {replica} had already. The number that {element} has must be greater than {theirs}; perhaps it is not. Usual causes: "
-           "the clock does not advance when changes arrive; the replica's number is compared before the clock; ids are compared as text, so 10 comes before 9.")
+           "{causes}ids are compared as text, so 10 comes before 9.")
+CLOCK = {True: "the clock does not advance with each insert; ", False: "the clock does not advance when changes arrive; the replica's number is compared before the clock; "}
 BESIDE_DELETED = ("If inserts find their place by a neighbour, look at inserts beside deleted elements: the lines above name {which}. If replicas throw "
                   "deleted elements away, nothing says then where the insert belongs; if they keep them, the search for its place must treat them like "
                   "elements that are shown.")
 SEVERAL_DELETED = ("Look at positions beside deleted elements: any {fewer} of {named} fit together, all {k} don't; perhaps an insert lost its place "
-                   "because its neighbour was deleted elsewhere. The lines above say which elements each response no longer has.")
+                   "because its neighbour was deleted meanwhile. {next}")
+NEXT = "Look first at where replica {replica} placed {element} in line {line}, beside {gone}, which had been deleted there."
+NO_NEXT = "The lines above say which elements each response no longer has."
 SEVERAL_APART = ("Look at how a replica orders elements when it has only some of them: any {fewer} of {named} fit together, all {k} don't. An "
                  "element that one of these responses lacks was not deleted there; it had not arrived yet. Often the rule that orders concurrent "
                  "inserts is not the same everywhere.")
-WEAK_ALONE_HOLDS = ("An editor whose server orders all changes, as Jupiter's does, promises only the weak list specification, and up to line {line} "
-                    "that holds. To ask for that only, use --weak.")
+WEAK_ALONE_HOLDS = ("An editor whose server orders all changes, as Jupiter's does, promises only the weak list specification, which holds {here}. If yours is "
+                    "such a one, nothing is wrong here: ask for weak alone, in the tools by --weak.")
+SETTLED = ("Look at where a replica places an incoming insert beside a deleted element: {first} was put before {middle} ({op_first}), and {then} behind it ({op_then}), so "
+           "{middle} settles their order, also where it is deleted; yet they were shown in two different orders. No rule for concurrent inserts at one place may decide here.")
 BETWEEN = ("{operation} shows [{other}] between [{behind}] and [{element}], which was put directly behind [{behind}]; the author of [{other}] knew neither. If inserts "
            "find their place by a neighbour, look at how [{other}] found its place there: if the search skips [{behind}], it must also skip all that was put behind [{behind}].")
 BEHIND_UNKNOWN = ("[{element}] was put directly behind [{behind}]; the author of [{other}] did not know [{behind}]. If inserts find their place by a neighbour, look at how "
                   "[{other}] found its place: if the search skips [{behind}], it must also skip all that was put behind [{behind}].")
 CONCURRENT = ("Look at the order of concurrent inserts: {first} and {then} were inserted{place} without knowing of each other, and were shown "
-              "in two different orders. Use a rule that gives the same order everywhere (such as the replicas' numbers), and not the order of "
+              "in two different orders. Use a rule that gives the same order everywhere (such as the replicas' numbers), and not each replica's order of "
               "arrival or a number set on arrival. No fast path may skip that rule.")
 POSITIONS = ("Look at how a position is adjusted where a change arrives: the position of {element} was perhaps not adjusted for {changes}, which "
              "replica {replica} knew and the author of {element} did not{back}. Or look at the order of concurrent inserts: {first} and {then} were inserted without knowing of each "
@@ -97,6 +109,8 @@ POSITIONS = ("Look at how a position is adjusted where a change arrives: the pos
 EITHER = ("Look at the order of concurrent inserts: {first} and {then} were inserted at one place without knowing of each other, and were shown in two "
           "different orders. Either the rule that orders them is not the same everywhere; or the position of {element} was not adjusted for {changes}, "
           "which replica {replica} knew and the author of {element} did not{back}.")
+REBASED = ("Replica {replica} inserted both {one} and {two} itself. If the editor takes back its own changes when others' arrive, and applies them anew (rebasing), look at "
+           "where that puts them.")
 SEEN = ("Look at where a replica places an incoming insert: replica {author} had [{old}] already when it inserted [{new}] ({later}, line {line}), and so "
         "settled the order of the two; yet two responses differ about it.{numbers}")
 MOVED_INSERT = ("If the editor sends positions, the position of {element} was perhaps not adjusted for {changes}, which replica {replica} "
@@ -136,6 +150,10 @@ def of_contents(evidence: Evidence) -> list:
     found += more
     found = [*lost(evidence), *found] if is_loss_first else [*found, *lost(evidence)]
     found += brought(evidence, not found)
+    found += replaced(evidence) if not found else []
+    unknown = [name for name in evidence.surplus if name not in evidence.recording.inserts]
+    if unknown:
+        found = [Cause("unknown", UNKNOWN.format(names=listed(unknown, MOST_TOLD))), *found]
     these = "If none of these is the cause" if found[1:] else "If that is not the cause"
     return [*found, Cause("arrival", otherwise(these, ARRIVAL) if found else ARRIVAL)]
 
@@ -151,10 +169,12 @@ def applied_twice(evidence: Evidence) -> list:
 
 
 def in_part(evidence: Evidence) -> list:
-    """Of deletes that came together, of which the first had nothing to delete, and what came behind it was not applied."""
+    """Of deletes that came together, of which the first had nothing to delete, and what came behind it was not applied; and none was lost."""
     if evidence.in_part is None:
         return []
     change, other, gone = evidence.in_part
+    if (other, evidence.operations[0].replica) in astray(evidence):
+        return []
     told = IN_PART.format(first=at(other), then=at(change), replica=evidence.operations[0].replica, element=other.element, gone=at(gone),
                           surplus=listed(evidence.surplus, MOST_TOLD), is_="are" if evidence.surplus[1:] else "is")
     return [Cause("applied in part", told)]
@@ -241,7 +261,7 @@ def moved_delete(evidence: Evidence, delete: Operation) -> list:
         return []
     others = [other.element for insert in evidence.recording.inserts.get(delete.element, [])[:1]
               for other in put_there_at_once(evidence.recording, insert, receipt)]
-    back = MOVED_BEFORE if met_before(evidence.recording, delete, receipt) else ""
+    back = MOVED_BEFORE.format(replica=receipt.replica) if met_before(evidence.recording, delete, receipt) else ""
     return [Cause("positions", MOVED_DELETE.format(delete=delete.name, changes=named(unknown), back=back, tie=at_once(delete.element, others) if others else ""))]
 
 
@@ -254,14 +274,15 @@ def changes_told(changes: list) -> dict:
 
 def wrong_delete(evidence: Evidence, operation: Operation) -> list:
     """Of a response that lacks one element, which nothing deletes and which was there before, and has one that was deleted for it since its
-    replica's response before, which was right; but views, which may leave out any."""
+    replica's response before, which was right; but views, which may leave out any. What it lacks came before that delete."""
     if evidence.repeated or len(evidence.missing) != 1 or len(evidence.surplus) != 1:
         return []
     (missing,), (surplus,) = evidence.missing, evidence.surplus
     inserts, deletes = evidence.recording.inserts.get(surplus, []), evidence.recording.deletes.get(surplus, [])
     before = [one for one in evidence.recording.streams[operation.replica][:operation.n - 1] if one.kind != "view"][-1:]
     news = [delete for delete in deletes if operation.has_seen(delete) and not any(one.has_seen(delete) for one in before)]
-    is_new = any(map(evidence.is_new, evidence.recording.inserts[missing])) and before
+    is_new = before and any(evidence.is_new(insert) and evidence.line_at(insert, operation.replica) >= evidence.line_at(delete, operation.replica)
+                            for insert in evidence.recording.inserts[missing] for delete in news[:1])
     earlier = [one for one in evidence.recording.deletes.get(missing, []) if one.line < operation.line]
     is_deleted = earlier and not all(evidence.otherwise)  # by what no receipt brings, and that alone tells it
     if is_deleted or not news or is_new or not any(map(operation.has_seen, inserts)):
@@ -282,14 +303,30 @@ def too_much(evidence: Evidence) -> list:
     if not deletes or unseen:
         return []
     return [Cause("too much", TOO_MUCH.format(deletes=listed(list(map(at, deletes)), MOST_TOLD), replica=operation.replica, missing=listed(evidence.missing, MOST_TOLD),
-                                              before=at(before), it="them" if evidence.missing[1:] else "it"))]
+                                              before=at(before), it="them" if evidence.missing[1:] else "it",
+                                              theirs=listed(list(dict.fromkeys(delete.element for delete in deletes)), MOST_TOLD)))]
+
+
+def replaced(evidence: Evidence) -> list:
+    """Of a response that lacks what its replica showed before, and has nothing that should not be there, where no delete has come since."""
+    operation = evidence.operations[0]
+    before = next((one for one in reversed(evidence.recording.streams[operation.replica][:operation.n - 1]) if one.kind != "view"), None)
+    if before is None or evidence.surplus or not evidence.missing or not set(evidence.missing) <= set(before.response) or operation.kind == "del":
+        return []
+    came = evidence.came_between(before, operation)
+    if any(change.kind == "del" for change in came):
+        return []
+    if not came:
+        return [Cause("vanished", VANISHED.format(replica=operation.replica, missing=listed(evidence.missing, MOST_TOLD), before=at(before)))]
+    return [Cause("replaced", REPLACED.format(replica=operation.replica, missing=listed(evidence.missing, MOST_TOLD), before=at(before), came=named(came),
+                                              it="them" if evidence.missing[1:] else "it", came_first=came[-1].name))]
 
 
 def second_delete(evidence: Evidence) -> list:
     found = evidence.second_deletes[:1]
     return [Cause("second delete", SECOND_DELETE.format(again=at(again), element=again.element, first=at(first), replica=evidence.operations[0].replica,
                                                         missing=listed(evidence.lost, MOST_TOLD)))
-            for again, first in found] + [one for again, _ in found for one in moved_delete(evidence, again)]
+            for again, first in found]
 
 
 def overtaken(evidence: Evidence) -> list:
@@ -299,7 +336,10 @@ def overtaken(evidence: Evidence) -> list:
 
 
 def lost_neighbour(evidence: Evidence) -> list:
-    lost = [arrival.insert.element for arrival, _ in evidence.lost_neighbours if arrival.insert.element in evidence.missing]
+    """Of an insert that the replica has shown nowhere since it came, and whose neighbour was deleted there, and not overtaken."""
+    overtaken_ones = {change.element for change, _ in evidence.overtakings}
+    lost = [arrival.insert.element for arrival, deletes in evidence.lost_neighbours if arrival.insert.element in evidence.missing
+            and not evidence.was_shown_since(arrival) and not overtaken_ones.intersection(delete.element for delete in deletes)]
     return [Cause("lost neighbour", LOST_NEIGHBOUR.format(element=lost[0]))] if lost else []
 
 
@@ -319,9 +359,10 @@ def of_position(evidence: Evidence) -> list:
         return [Cause("mapping", mapped), *sorted_by]
     passed = response[asked:response.index(name)]
     theirs = "theirs" if passed[1:] else f"that of {passed[0]}"
+    are_own = all(insert.replica == operation.replica for one in passed for insert in evidence.recording.inserts.get(one, []))
     if has_delete and is_younger_by_name(name, passed):
         return [Cause("mapping", mapped), *sorted_by]
-    return [Cause("numbers", NUMBERS.format(element=name, passed=listed(passed, MOST_TOLD), replica=operation.replica, theirs=theirs)),
+    return [Cause("numbers", NUMBERS.format(element=name, passed=listed(passed, MOST_TOLD), replica=operation.replica, theirs=theirs, causes=CLOCK[are_own])),
             *sorted_by, Cause("mapping", otherwise("If neither fits your editor" if sorted_by else "If that does not fit your editor", mapped))]
 
 
@@ -383,14 +424,16 @@ def sorted_alike(evidence: Evidence) -> Cause:
 def of_refusal(evidence: Evidence, weak: bool) -> list:
     """Concurrent inserts first; then inserts beside deleted elements, then two elements of which one's author had seen the other."""
     if evidence.report["k"] > 2:
-        return [*lost(evidence), *came_between(evidence), of_several(evidence), sorted_alike(evidence), Cause(ALONE, WEAK_ALONE_HOLDS.format(line=evidence.last_line))]
+        return [*lost(evidence), *came_between(evidence), of_several(evidence), sorted_alike(evidence), Cause(ALONE, WEAK_ALONE_HOLDS.format(here=here(evidence)))]
     first, then = (evidence.recording.inserts[name][0] for name in evidence.elements)
     if not first.has_seen(then) and not then.has_seen(first):
         moved = moved_over(evidence)
         if weak and moved:
             told = (EITHER if are_put_at_once(first, then) else POSITIONS).format(first=first.element, then=then.element, **moved)
             return [*lost(evidence), *reordered(evidence), *came_between(evidence), Cause("concurrent", told), *beside_deleted(evidence)]
-        concurrent = [Cause("concurrent", CONCURRENT.format(first=first.element, then=then.element, place=place_of_both(first, then))), *behind_unknown(evidence, first, then)]
+        settled = settled_by_another(evidence, first, then)
+        concurrent = settled or [Cause("concurrent", CONCURRENT.format(first=first.element, then=then.element, place=place_of_both(first, then))),
+                                 *behind_unknown(evidence, first, then)]
         causes = [concurrent, beside_deleted(evidence)]
         is_deleted_first = evidence.lost_neighbours and not are_put_at_once(first, then)
         return [*lost(evidence), *reordered(evidence), *came_between(evidence), *sum(causes[::-1] if is_deleted_first else causes, []), sorted_alike(evidence), *moved_insert(moved)]
@@ -402,8 +445,32 @@ def of_refusal(evidence: Evidence, weak: bool) -> list:
     if weak and moved:
         return [*lost(evidence), *reordered(evidence), Cause("seen", told), *moved_insert(moved), *beside_deleted(evidence)]
     place = later.response.index(later.element)
-    sorted_by = identifiers(later, later.response[max(place - 1, 0):place], later.response[place + 1:place + 2])
-    return [*lost(evidence), *reordered(evidence), *beside_deleted(evidence), Cause("seen", told), *sorted_by, *moved_insert(moved)]
+    beside = later.response[max(place - 1, 0):place + 2]
+    names = [name for name in later.response if name in beside or name == old.element]
+    sorted_by = identifiers(later, names[:names.index(later.element)], names[names.index(later.element) + 1:])
+    turned = reordered(evidence)
+    if turned and first.replica == then.replica == evidence.reordered[3].replica:
+        seen = Cause("rebased", REBASED.format(replica=first.replica, one=first.element, two=then.element))
+    else:
+        seen = Cause("seen", told)
+    return [*lost(evidence), *turned, *beside_deleted(evidence), seen, *sorted_by, *moved_insert(moved)]
+
+
+def settled_by_another(evidence: Evidence, first: Operation, then: Operation) -> list:
+    """Of two inserts of which the one was put before an element, and the other behind it, which so settles their order. The nearest one counts."""
+    found = []
+    for one, other in (first, then), (then, first):
+        before, behind = one.response[one.response.index(one.element) + 1:], other.response[:other.response.index(other.element)]
+        found += [(before.index(name) + len(behind) - behind.index(name), name, one, other) for name in set(before).intersection(behind)
+                  if any(shown.has_seen(delete) for shown in evidence.operations for delete in evidence.recording.deletes.get(name, []))]
+    return [Cause("settled", SETTLED.format(first=one.element, then=other.element, middle=middle, op_first=f"{one.name}, line {one.line}",
+                                            op_then=f"{other.name}, line {other.line}"))
+            for _, middle, one, other in sorted(found, key=lambda each: each[:2])[:1]]
+
+
+def here(evidence: Evidence) -> str:
+    """Of what weak holds: of all that is explained."""
+    return "here" if evidence.last_line == len(evidence.recording.lines) else f"in these first {evidence.last_line} lines"
 
 
 def place_of_both(first: Operation, then: Operation) -> str:
@@ -431,8 +498,15 @@ def of_several(evidence: Evidence) -> Cause:
     are_some_gone = any(operation.has_seen(delete) for _, operation in evidence.steps for name in evidence.elements
                         for delete in evidence.recording.deletes.get(name, []))
     if evidence.lost_neighbours or are_some_gone:
-        return Cause("several, deleted", SEVERAL_DELETED.format(named=names, fewer=fewer, k=counted(evidence.report["k"])) + put_at_once(evidence))
+        return Cause("several, deleted", SEVERAL_DELETED.format(named=names, fewer=fewer, k=counted(evidence.report["k"]), next=next_of(evidence)) + put_at_once(evidence))
     return Cause("several, apart", SEVERAL_APART.format(named=names, fewer=fewer, k=counted(evidence.report["k"])))
+
+
+def next_of(evidence: Evidence) -> str:
+    """Where to begin among several responses: at the last insert that came where its neighbour was deleted, if one did."""
+    for arrival, deletes in evidence.lost_neighbours[-1:]:
+        return NEXT.format(replica=arrival.receipt.replica, element=arrival.insert.element, line=arrival.receipt.line, gone=joined([delete.element for delete in deletes]))
+    return NO_NEXT
 
 
 def put_at_once(evidence: Evidence) -> str:
@@ -453,7 +527,7 @@ def put_meanwhile(evidence: Evidence, insert: Operation) -> str:
 
 
 def at_once(element: str, others: list) -> str:
-    return PUT_AT_ONCE.format(element=element, others=listed(others, MOST_TOLD), were="were" if others[1:] else "was")
+    return PUT_AT_ONCE[len(others) == 1].format(element=element, others=listed(others, MOST_TOLD))
 
 
 def moved_over(evidence: Evidence) -> dict:
@@ -463,7 +537,9 @@ def moved_over(evidence: Evidence) -> dict:
     if not unknown:
         return {}
     before = elements_before(evidence.recording, arrival.insert, arrival.receipt)
-    unknown = [delete for delete in unknown if delete.element in before] or unknown
+    unknown = [delete for delete in unknown if delete.element in before]
+    if not unknown:
+        return {}
     back = MOVED_BACK[len(unknown) == 1] if any(met_inserts(evidence.recording, delete, arrival) for delete in unknown) else ""
     return {"element": arrival.insert.element, "changes": named(unknown), "replica": arrival.receipt.replica, "back": back}
 

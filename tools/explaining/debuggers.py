@@ -37,7 +37,8 @@ def stop_of(evidence: Evidence) -> tuple:
                    if not evidence.recording.is_delivered(arrival.receipt.line)}
         *others, entry = list(arrived.values()) or [max(evidence.operations, key=lambda operation: operation.line)]
         first = reordering(evidence) or came_between(evidence)
-        return (first, [other for other in [entry, *others[::-1]] if other.line != first.line]) if first else (entry, others[::-1])
+        arrivals = [entry, *others[::-1]] if arrived else []
+        return (first, [other for other in arrivals if other.line != first.line]) if first else (entry, others[::-1])
     named = evidence.operations[0]
     if evidence.report["verdict"] == "contents" and evidence.undelivered:
         return evidence.undelivered[0], []
@@ -80,8 +81,13 @@ def told(evidence: Evidence, entry: Operation | Receipt, others: list) -> str:
     before = ", ".join(f"line {other.line}" for other in others[:MOST_OTHERS])
     then = f"; if nothing is wrong there, stop at {'another arrival' if len(others) == 1 else 'other arrivals'} ({before})" if others else ""
     if evidence.report["verdict"] == "contents" and evidence.undelivered:
-        then = f", and follow {entry.name} to replica {evidence.operations[0].replica}"
+        return followed(entry, evidence.operations[0].replica)
     return f"stop before line {entry.line} of the trace, where {doing(entry)}{then}."
+
+
+def followed(change: Operation, replica: int) -> str:
+    """Where to stop for a change that was lost on its way."""
+    return f"stop before line {change.line} of the trace, where {doing(change)}, and follow {change.name} to replica {replica}."
 
 
 def statement(recording: Recording, entry: Operation | Receipt, language: str) -> str:
@@ -93,7 +99,7 @@ def statement(recording: Recording, entry: Operation | Receipt, language: str) -
     first = first_together(recording, entry)
     then, asked = f"the recording has {entry.line - 1} lines then", words.format(entry.line - 1)
     if first < entry.line:
-        then += f"; or {first - 1}, if lines {first} to {entry.line} were written in one go"
+        then += f"; or {first - 1}, if one call wrote lines {first} to {entry.line}"
         asked = FOR_TWO[language].format(first - 1, entry.line - 1)
     return f" In {name}, put this {READS if is_read else BEGINS} ({then}): {asked}"
 

@@ -267,6 +267,11 @@ class Evidence:
         found = [self.recording.change_at(self.recording.deletes.get(name, []), receipt) for name in self.beside(insert)] if insert.kind == "ins" else []
         return list(filter(None, found))
 
+    def was_shown_since(self, arrival: Arrival) -> bool:
+        """Whether a response of the replica between an arrival and the one that the verdict names shows what arrived."""
+        operation = self.operations[0]
+        return any(arrival.insert.element in one.response for one in self.recording.streams[operation.replica][arrival.receipt.before:operation.n - 1])
+
     def unknown_deletes(self, arrival: Arrival) -> list:
         """The deletes that the replica had when the insert arrived, and that the insert's author had not seen."""
         clock = self.recording.clock_before(arrival.receipt)
@@ -391,6 +396,8 @@ class Evidence:
 
     def may_be_lost(self, change: Operation, replica: int) -> bool:
         """Whether the responses there show that a change was not applied; or don't show it, where no receipt stands for several changes."""
+        if any(own.kind == "del" and own.element == change.element for own in self.recording.streams[replica]) and change.kind == "ins":
+            return False  # what it deletes it had
         is_applied = self.recording.is_applied(change, replica)
         return is_applied is False or is_applied is None and not self.recording.has_updates_of_several
 

@@ -7,13 +7,13 @@ import re
 from typing import NamedTuple
 
 from . import debuggers
-from .causes import ALONE, Cause, causes_of, otherwise
+from .causes import ALONE, Cause, astray, causes_of, otherwise
 from .evidence import MOST_ARRIVED, Evidence
 from .programs import WEAK_ALONE, is_weak_alone
 from .recordings import Operation, Receipt, Recording, place_asked
 from .telling import FIRST_STEPS, at, counted, did, joined, listed
 
-CODE, LOG, NOTED = "In your code", "In your log", "Noted"  # titles: places of code or of a log; the user's words
+CODE, LOG, NOTED = "In your code", "In your log", "Your notes"  # titles: places of code or of a log; the user's words
 HIDDEN = "What this verdict may hide"  # the title of the section of warnings, the first one
 WHERE = "Where to look"  # that of the likely causes
 REFUSED_FIRST = "Look first at the call that was refused, as told above: what it says is not in the trace."
@@ -49,7 +49,7 @@ def explanation(evidence: Evidence, told: Evidence, language: str = debuggers.US
     if weak and is_weak_alone(evidence.report):
         headline = f"{WEAK_ALONE}: this passes, since only the weak list specification is asked for. Why the strong one fails: {headline}"
     return Explanation(headline, [*when_it_went_wrong(evidence, told, weak), *without_receipts(told), *sections, *where,
-                                  *in_a_debugger(told, language), *whole, specifications(evidence.report)],
+                                  *in_a_debugger(told, language, causes), *whole, specifications(evidence.report, bool(whole))],
                        tuple(cause.name for cause in causes))
 
 
@@ -58,11 +58,12 @@ def of_whole(evidence: Evidence, told: Evidence) -> list:
     contradiction shows more."""
     if not evidence.report.get("k") == 2 < told.report.get("k", 0):
         return []
-    return [Cause(cause.name, otherwise("For the verdict on the whole trace (below)", cause.told)) for cause in causes_of(evidence)]
+    return [Cause(cause.name, otherwise("For the verdict on the whole trace (told below)", cause.told)) for cause in causes_of(evidence)
+            if cause.name != "beside deleted"]  # which speaks of lines above
 
 
-def specifications(report: dict) -> Section:
-    """What the verdict says by definition, which a user need not know to mend the editor."""
+def specifications(report: dict, is_of_whole: bool) -> Section:
+    """What the verdict says by definition, which a user need not know to mend the editor; where all before is of a beginning, of what this is."""
     holds = {True: "holds", False: "fails"}
     if "strong" not in report:
         told = "neither the strong nor the weak one was judged: both know an element by its name"
@@ -70,7 +71,7 @@ def specifications(report: dict) -> Section:
         told = f"strong and weak {'hold' if report['strong'] else 'fail'}"
     else:
         told = f"strong {holds[report['strong']]}, weak {holds[report['weak']]}"
-    return Section("The list specifications", [told])
+    return Section("The list specifications", ["by the whole trace, " * is_of_whole + told])
 
 
 def verdict_of(report: dict) -> str:
@@ -107,13 +108,20 @@ def whole_trace(evidence: Evidence, told: Evidence) -> list:
         return [Section(f"What the whole trace shows: {AROUND}", shown_by(evidence, False))]
     if all(evidence.report.get(key) == told.report.get(key) for key in ("verdict", "at", "first", "again")):
         return []
-    return [Section("What the verdict on the whole trace is about", [f"{did(operation)}, answered {answer(evidence, operation)}"
-                                                                  for operation in evidence.operations])]
+    wrong = f": {what_is_wrong(evidence, evidence.operations[0])}" if evidence.report["verdict"] == "contents" else ""
+    lines = [f"{did(operation)}, answered {answer(evidence, operation)}{wrong}" for operation in evidence.operations]
+    if evidence.missing:
+        lines.append(f"it lacks {listed(evidence.missing, MOST_ARRIVED)}")
+    return [Section("What the verdict on the whole trace is about", lines + [cause.told for cause in causes_of(evidence)[:1] if evidence.report["verdict"] == "doubled"])]
 
 
-def in_a_debugger(told: Evidence, language: str) -> list:
+def in_a_debugger(told: Evidence, language: str, causes: list) -> list:
     entry, others = debuggers.stop_of(told)
-    return [Section(debuggers.TITLE, [debuggers.told(told, entry, others) + debuggers.statement(told.recording, entry, language)])] if entry else []
+    if not entry:
+        return []
+    (change, replica), *_ = astray(told) if causes[0].name == "lost" else [(None, None)]
+    told_of = debuggers.followed(change, replica) if change else debuggers.told(told, entry, others)
+    return [Section(debuggers.TITLE, [told_of + debuggers.statement(told.recording, change or entry, language)])]
 
 
 def without_receipts(evidence: Evidence) -> list:
@@ -121,7 +129,7 @@ def without_receipts(evidence: Evidence) -> list:
     recording = evidence.recording
     if evidence.report["verdict"] == "accepted" or any(recording.receipts) or sum(map(bool, recording.streams)) < 2:
         return []
-    return [Section("First of all", ["this trace has no recv line: `received` was never called, so no replica has heard of another"])]
+    return [Section("First of all", ["this trace has no recv line: `received` was never called, so no replica has heard of another; call it after each change that is applied"])]
 
 
 def with_warnings(told: Explanation, warnings: list, refused: tuple = ()) -> Explanation:
@@ -190,7 +198,7 @@ def in_the_end(recording: Recording) -> list:
     told = joined([str(operation.replica) for operation in whole])
     lists, sets = ({kind(operation.response) for operation in whole} for kind in (tuple, frozenset))
     shown = "the same list" if len(lists) == 1 else "the same elements in different orders" if len(sets) == 1 else "different lists"
-    return [f"by the receipts, replicas {told} have every change in the end, and show {shown}"]
+    return [f"in the end replicas {told} have every change, as the receipts say, and show {shown}"]
 
 
 def life(recording: Recording, name: str) -> str:
@@ -316,7 +324,8 @@ def since(evidence: Evidence, operation: Operation, still: str = "is right") -> 
     came = "received " + ", ".join(arrived[:MOST_ARRIVED]) + more if arrived else "received nothing"
     if not before:
         return f"before it: replica {operation.replica} did nothing, and {came}"
-    return f"before it: replica {operation.replica}'s {at(before[0])} {still}; since then it {came}"
+    list_before = marked(before[0].response, set(evidence.elements) if evidence.report["verdict"] == "contents" else set())
+    return f"before it: replica {operation.replica}'s {at(before[0])} answered {list_before}, which {still}; since then it {came}"
 
 
 def facts(evidence: Evidence, name: str, operation: Operation) -> list:
@@ -332,7 +341,7 @@ def facts(evidence: Evidence, name: str, operation: Operation) -> list:
         lines += neighbours(evidence, change) if change.kind == "ins" and name not in evidence.repeated else []
         for other in evidence.beside(change) if change.kind == "ins" and operation.has_seen(change) else []:
             told = [line for one, found in evidence.overtakings if one.element == other for line in overtaken(evidence, one, operation)]
-            lines += [f"{other}, beside which it was put: {line}" for line in told]
+            lines += [f"was put beside {other}, which {recording.inserts[other][0].name} inserted: {line}" for line in told]
     if name in recording.inserts and name not in recording.deletes:
         lines.append("no operation deletes it")
     return [f"[{name}] {line}" for line in lines]
@@ -362,7 +371,7 @@ def neighbours(evidence: Evidence, insert: Operation) -> list:
     """Beside what an element was put that arrived, and whether that was deleted there by then."""
     arrival = next((arrival for arrival in evidence.arrivals if arrival.insert is insert), None)
     names = evidence.beside(insert)
-    if arrival is None or not names:
+    if arrival is None or not names or any(change.element in (insert.element, *names) for change, _ in evidence.overtakings):
         return []
     receipt = arrival.receipt
     gone = next((deletes for other, deletes in evidence.lost_neighbours if other is arrival), [])
@@ -385,7 +394,7 @@ def arrived(recording: Recording, seen: Operation, operation: Operation) -> str:
     way = recording.way(seen, operation)
     if not way:
         return f"an earlier operation of replica {operation.replica}"
-    hops = [f"{how_arrived(receipt, seen)}{', which had it,' * (place > 0)} in line {receipt.line} ({receipt.text})"
+    hops = [f"{how_arrived(receipt, seen)}{', whose author had it,' * (place > 0)} in line {receipt.line} ({receipt.text})"
             + ", a line that `delivered` wrote" * recording.is_delivered(receipt.line) for place, receipt in enumerate(way)]
     return "which " + ", and ".join(hops)
 
