@@ -326,7 +326,7 @@ def second_delete(evidence: Evidence) -> list:
     found = evidence.second_deletes[:1]
     return [Cause("second delete", SECOND_DELETE.format(again=at(again), element=again.element, first=at(first), replica=evidence.operations[0].replica,
                                                         missing=listed(evidence.lost, MOST_TOLD)))
-            for again, first in found]
+            for again, first in found] + [one for again, _ in found for one in moved_delete(evidence, again)]
 
 
 def overtaken(evidence: Evidence) -> list:
@@ -537,7 +537,9 @@ def moved_over(evidence: Evidence) -> dict:
     if not unknown:
         return {}
     before = elements_before(evidence.recording, arrival.insert, arrival.receipt)
-    unknown = [delete for delete in unknown if delete.element in before]
+    shown = arrival.insert.response
+    behind = set(shown[shown.index(arrival.insert.element):])  # whose deletes move nothing that stands before them
+    unknown = [delete for delete in unknown if delete.element in before] or [delete for delete in unknown if delete.element not in behind]
     if not unknown:
         return {}
     back = MOVED_BACK[len(unknown) == 1] if any(met_inserts(evidence.recording, delete, arrival) for delete in unknown) else ""
