@@ -475,7 +475,7 @@ FAILS_WEAK = [
     # Where strong failed before, the session went wrong where weak fails.
     ("opposite orders after the cycle", f"{THREE_WAY}|1 recv 0 2|1 recv 2 1|1 read : a b|2 recv 0 2|2 recv 1 1|2 read : a b", "refused 2: ", [
         "When it went wrong", "line 14 of the trace, 1.2: replica 1 read the list. Up to line 13 weak holds; line 14 leads to `refused 2`",
-        "before it: replica 1's 1.1 (line 6) agrees with all responses up to then; since then it received 0.2 (line 12), 2.1 (line 13)",
+        "before it: replica 1's 1.1 (line 6) answered a x, which agrees with all responses up to then; since then it received 0.2 (line 12), 2.1 (line 13)",
         "[a] before [b]: line 14, 1.2: replica 1 read the list, answered [a] [b]",
         "[b] before [a]: line 11, 0.3: replica 0 read the list, answered [b] [a]", "strong and weak fail"]),
     ("a lost element after the cycle", f"{THREE_WAY}|1 recv 0 2|1 recv 2 1|1 read : b|0 read : b", "contents 1.2: ", [
@@ -487,7 +487,7 @@ FAILS_WEAK = [
     ("a name twice", "0 ins a 0 : a|1 ins a 0 : a", "doubled: ", ["neither the strong nor the weak one was judged: both know an element by its "
                                                                  "name"])]
 
-FIRST = ["First of all", "this trace has no recv line: `received` was never called, so no replica has heard of another"]
+FIRST = ["First of all", "this trace has no recv line: `received` was never called, so no replica has heard of another; call it after each change that is applied"]
 # How many replicas, the entries, and whether this is said of it before all else.
 UNHEARD_OF = [
     (2, "0 ins a 0 : a|1 read : a", True), (3, "0 ins a 0 : a|2 ins a 0 : a", True), (2, "0 ins a 0 : a|0 read :|1 read :", True),
@@ -2039,7 +2039,7 @@ def small(tally: Tally, program: str, folder: str) -> None:
             tally.check("refused: where elements arrived", is_right and sorted(stops_said) == stops, f"{whole}{stops}\n{got}")
             stop_lines = sorted({line for line, *_ in stops}, reverse=True) or [len(meant.splitlines())]
             turned = turned_at(meant, meant_report)
-            stop_lines = [turned, *(line for line in stop_lines if line != turned)] if turned else stop_lines
+            stop_lines = [turned, *(line for line in stop_lines if stops and line != turned)] if turned else stop_lines
             wrong["turned"] += bool(turned)
             stopped = paragraph(said, "In a debugger").partition(" In Python,")[0]
             tally.check("refused: where to stop a debugger", [int(line) for line in re.findall(r"\bline (\d+)", stopped)] == stop_lines,
@@ -2115,7 +2115,7 @@ def weak(tally: Tally, program: str, folder: str) -> None:
     """Where weak is enough: what is said first, the status, what is warned of, and where a session went wrong that fails. All else stays."""
     trace = text_of(3, ALL_ARRIVED).encode()
     without, got = (explain(program, [*goal, "-"], trace) for goal in ([], ["--weak"]))
-    asks, rest = re.subn(rb"  An editor whose server orders .* use --weak\.\n", b"", without.out)[::-1]
+    asks, rest = re.subn(rb"  An editor whose server orders .* in the tools by --weak\.\n", b"", without.out)[::-1]
     tally.same("weak: it passes, and the explanation follows, but for how to ask for it", (asks, got), (1, Ended(0, ALONE.encode() + rest.replace(
         b"When it went wrong", b"When strong came to fail"), b"")))
     tally.check("weak: not asked for", without.status == 1 and without.out.startswith(b"refused 3: "), without)
