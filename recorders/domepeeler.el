@@ -207,6 +207,16 @@ causal is known whether it comes later."
     (unless (domepeeler-recording-first-refused recording)
       (setf (domepeeler-recording-first-refused recording) (nth 1 why)))))
 
+(defun domepeeler--too-long (recording names format &rest words)
+  "A response of RECORDING reaches a limit.
+Where it has more NAMES than were inserted it is wrong, whatever comes,
+and the call is told of as one that was refused."
+  (let ((inserted (cl-loop for own across (domepeeler-recording-replicas recording) sum (domepeeler--replica-inserts own)))
+        (why (apply #'format format words)))
+    (when (and (not (domepeeler-recording-only recording)) (> names inserted))
+      (domepeeler--note-refused recording (list 'domepeeler-refused why)))
+    (domepeeler--full "%s" why)))
+
 (defun domepeeler--leave-open (recording replica author n words)
   "AUTHOR's N was not causal at REPLICA, and WORDS say why."
   (let* ((open (domepeeler-recording-open recording))
@@ -841,10 +851,10 @@ A letter stands first, as `2-0' would look like an operation's name."
       (when (> (+ inserts (domepeeler--replica-inserts own)) domepeeler--inserts)
         (domepeeler--full "replica %d has %d inserts, the most that a trace takes" replica domepeeler--inserts))
       (when (> names domepeeler--names)
-        (domepeeler--full "a response of %d names; a trace takes at most %d" names domepeeler--names))
+        (domepeeler--too-long recording (- names inserts) "a response of %d names; a trace takes at most %d" names domepeeler--names))
       (when (> places domepeeler--places)
-        (domepeeler--full "%d names over the responses of replica %d; a trace takes at most %d"
-                          places replica domepeeler--places))
+        (domepeeler--too-long recording (- names inserts) "%d names over the responses of replica %d; a trace takes at most %d"
+                              places replica domepeeler--places))
       (cl-incf (domepeeler--replica-entries own))
       (cl-incf (domepeeler--replica-inserts own) inserts)
       (setf (domepeeler--replica-places own) places)

@@ -163,7 +163,8 @@ struct domepeeler {
     size_t called, callers_room;
     const char *file; /* from where the call comes that is under way, or NULL */
     int line;
-    size_t refused; /* calls, but for limits that domepeeler_full() was asked of, and what is not causal, which may come again */
+    long process;   /* that began it */
+    size_t refused; /* calls, but for limits where the response is not wrong as well, and what is not causal, which may come again */
     struct domepeeler_open open[DOMEPEELER_REPLICAS][DOMEPEELER_REPLICAS]; /* by replica and author: the last change that was refused so */
     int stops, is_weak_enough, is_wrong; /* whether calls are judged, and how; whether one was wrong */
     int is_stopping;                     /* whether the call that is under way is to call back when it ends */
@@ -245,15 +246,15 @@ static inline void domepeeler_keep_why(struct domepeeler *d, const char *format,
     own->of = d;
 }
 
-/* A call of the recording is refused. */
+/* A call of the recording is refused; full is 1 at a limit, and 2 where the response that reaches it is wrong as well. */
 static inline unsigned domepeeler_refuse(struct domepeeler *d, int full, const char *format, ...) {
     va_list words;
     va_start(words, format);
     domepeeler_keep_why(d, format, words);
     va_end(words);
-    d->full = full;
-    if (full && !*d->limit) memcpy(d->limit, d->why, sizeof d->limit);
-    if (full || !strncmp(d->why, "not causal: ", 12) || d->refused++) return 0;
+    d->full = !!full;
+    if (full == 1 && !*d->limit) memcpy(d->limit, d->why, sizeof d->limit);
+    if (full == 1 || !strncmp(d->why, "not causal: ", 12) || d->refused++) return 0;
     memcpy(d->first, d->why, sizeof d->first);
     return 0;
 }
@@ -405,6 +406,7 @@ static inline struct domepeeler *domepeeler_new_only(int replicas, int only) {
         domepeeler_free(d);
         return NULL;
     }
+    d->process = (long)getpid();
     d->replicas = replicas;
     d->only = only;
     char first[64];
@@ -750,6 +752,9 @@ static inline unsigned domepeeler_save_now(struct domepeeler *d, const char *pat
 }
 
 static inline unsigned domepeeler_known(struct domepeeler *d, int replica) {
+    if (d->process != (long)getpid())
+        return domepeeler_refuse(d, 0, "this process was forked, so it would record into a copy that nothing judges: let each process keep "
+                                       "a log of its own, and merge them");
     if (replica >= 0 && replica < d->replicas) return 1;
     return domepeeler_refuse(d, 0, "no replica %d among 0 to %d", replica, d->replicas - 1);
 }
@@ -840,11 +845,14 @@ static inline unsigned domepeeler_fits(struct domepeeler *d, int replica, unsign
     if (own->inserts + inserts > DOMEPEELER_INSERTS)
         return domepeeler_refuse(d, 1, "replica %d has %d inserts, the most that a trace takes", replica,
                                  DOMEPEELER_INSERTS);
+    size_t inserted = inserts;
+    for (int r = 0; r < d->replicas; r++) inserted += d->of[r].inserts;
+    int full = d->only < 0 && names > inserted ? 2 : 1; /* more names than were inserted are wrong, whatever comes */
     if (names > DOMEPEELER_NAMES)
-        return domepeeler_refuse(d, 1, "a response of %zu names; a trace takes at most %d", names,
+        return domepeeler_refuse(d, full, "a response of %zu names; a trace takes at most %d", names,
                                  DOMEPEELER_NAMES);
     if (own->places + names > DOMEPEELER_PLACES)
-        return domepeeler_refuse(d, 1,
+        return domepeeler_refuse(d, full,
                                  "%zu names over the responses of replica %d; a trace takes at most %d",
                                  own->places + names, replica, DOMEPEELER_PLACES);
     return 1;

@@ -69,7 +69,9 @@ const OWN_FILES = [OWN, OWN.replace(/[^/]*$/, "javascript/node_test.mjs")].flatM
 export class Refused extends Error {}
 
 /** The replica has reached a limit of traces: end this session, and begin another. */
-export class Full extends Refused {}
+export class Full extends Refused {
+  isWrong = false // whether the response has more names than were inserted: it is wrong, whatever comes, and a refused call that is told of
+}
 
 /** An update was applied at a replica that lacks a change which the update's author had seen. */
 export class NotCausal extends Refused {}
@@ -577,13 +579,11 @@ export class Recording {
     if (own.inserts + inserts > MOST_INSERTS) {
       throw new Full(`replica ${replica} has ${MOST_INSERTS} inserts, the most that a trace takes`)
     }
-    if (names > MOST_NAMES) {
-      throw new Full(`a response of ${names} names; a trace takes at most ${MOST_NAMES}`)
-    }
-    if (own.places + names > MOST_PLACES) {
-      throw new Full(`${own.places + names} names over the responses of replica ${replica}; ` +
-        `a trace takes at most ${MOST_PLACES}`)
-    }
+    if (names <= MOST_NAMES && own.places + names <= MOST_PLACES) return
+    const full = new Full(names > MOST_NAMES ? `a response of ${names} names; a trace takes at most ${MOST_NAMES}` :
+      `${own.places + names} names over the responses of replica ${replica}; a trace takes at most ${MOST_PLACES}`)
+    full.isWrong = this.#only === null && names > inserts + this.#replicas.reduce((all, one) => all + one.inserts, 0)
+    throw full
   }
 
   // The name in the trace: what is given, or of an id that is no name, a name that no other one has.
@@ -689,8 +689,8 @@ export class Recording {
     try {
       return record()
     } catch (why) {
-      if (!(why instanceof Refused) || why instanceof Full || why instanceof NotCausal) throw why
-      this.#firstRefused ||= why.message
+      if ((why instanceof Full && !why.isWrong) || why instanceof NotCausal) throw why
+      this.#firstRefused ||= why instanceof Refused ? why.message : escaped(String(why).slice(0, MOST_LETTERS)) // or what was given can't be looked at
       this.#refused += 1
       throw why
     }

@@ -33,7 +33,9 @@ Each call that a trace can't say raises `Refused`, or `Full` at a limit, and lea
 from __future__ import annotations
 
 import errno
+import itertools
 import json
+import mmap
 import os
 import random
 import re
@@ -54,6 +56,8 @@ UUID = re.compile(r"[0-9A-Fa-f]{8}(-[0-9A-Fa-f]{4}){3}-[0-9A-Fa-f]{12}", re.ASCI
 __tracebackhide__ = True  # pytest shows a refused call where the test makes it
 ONE_LOG = "one replica's log is no recording: merge the logs first"
 FORKED = "this process was forked, so it would record into a copy that nothing judges: let each process keep a log of its own, and merge them"
+COPIED = "this is a copy of a recording, and nothing judges what it gets: record into the one that the fixture began"
+FORKED_TOLD = "a forked process recorded into its copy of this recording, so what it says is not recorded"
 NOT_STOPPED = "one replica's log can't be judged after each call, but only when the logs are merged"
 MOST_NOTES, MOST_LETTERS = 20, 200  # of a recording, and of a note
 MOST_DELIVERED = 100  # calls of `delivered` of which the tool is told
@@ -73,6 +77,9 @@ STATEMENT = re.compile(r"^(  stop before line (\d+) of the trace, .*?) In [A-Z][
 MOST_WARNED = 5  # deletes, or inserts, that are warned of one by one
 MOST_CHANGES = 3  # that are warned of one by one of those that a replica lacks, or has made nothing of
 
+_FORKS = mmap.mmap(-1, mmap.PAGESIZE)  # is shared with processes that are forked: a byte for some recordings, in which of whose copies they recorded
+_begun = itertools.count()
+
 Clock = Union[Sequence[int], Mapping[int, int]]
 Words = Union[str, Sequence[str]]
 Lists = Union[Sequence[Iterable[str]], Mapping[int, Iterable[str]]]
@@ -86,6 +93,8 @@ class Refused(ValueError):
 
 class Full(Refused):
     """The replica has reached a limit of traces: end this session, and begin another."""
+
+    is_wrong = False  # whether the response has more names than were inserted: it is wrong, whatever comes, and a refused call that is told of
 
 
 class NotCausal(Refused):
@@ -161,6 +170,9 @@ class Recording:
     def __init__(self, replicas: int, only: Optional[int] = None, stop: bool = False, weak: bool = False) -> None:
         self._lock = threading.RLock()
         self._process = os.getpid()
+        self._is_watched = self._is_copy = False  # whether something judges it, and will judge no copy; and whether it is such a copy
+        self._slot = next(_begun) % mmap.PAGESIZE  # of _FORKS
+        _FORKS[self._slot] = 0
         if not _whole(replicas, 1, MOST_REPLICAS):
             raise Refused(f"replicas are 1 to {MOST_REPLICAS}, not {replicas}" if _is_int(replicas) else
                           _not_whole("number of replicas", replicas, 1, MOST_REPLICAS))
@@ -190,7 +202,7 @@ class Recording:
             raise Refused("a recording takes `weak` only with `stop`: else give it to `judge` and `explain`")
 
     def __getstate__(self) -> Dict[str, Any]:
-        return {name: value for name, value in vars(self).items() if name != "_lock"}  # a copy has its own
+        return {**{name: value for name, value in vars(self).items() if name != "_lock"}, "_is_copy": self._is_watched}  # a copy has its own lock
 
     def __setstate__(self, state: Dict[str, Any]) -> None:
         vars(self).update(state, _lock=threading.RLock(), _process=os.getpid())
@@ -558,11 +570,12 @@ class Recording:
         own = self._replicas[replica]
         if own.inserts + inserts > MOST_INSERTS:
             raise Full(f"replica {replica} has {MOST_INSERTS} inserts, the most that a trace takes")
-        if names > MOST_NAMES:
-            raise Full(f"a response of {names} names; a trace takes at most {MOST_NAMES}")
-        if own.places + names > MOST_PLACES:
-            raise Full(f"{own.places + names} names over the responses of replica {replica}; "
-                       f"a trace takes at most {MOST_PLACES}")
+        if names <= MOST_NAMES and own.places + names <= MOST_PLACES:
+            return
+        full = Full(f"a response of {names} names; a trace takes at most {MOST_NAMES}" if names > MOST_NAMES else
+                    f"{own.places + names} names over the responses of replica {replica}; a trace takes at most {MOST_PLACES}")
+        full.is_wrong = self._only is None and names > inserts + sum(one.inserts for one in self._replicas)
+        raise full
 
     def _name(self, given: Any) -> str:
         """The name in the trace: what is given, or of an id that is no name, a name that no other one has."""
@@ -658,19 +671,29 @@ class Recording:
         """What a call that records answers. If it is refused, that is remembered: what it says is not recorded. At a limit the session ends
         and the caller knows it; and of what is not causal is known whether it comes later."""
         if self._process != os.getpid():
+            _FORKS[self._slot] = 1
             raise Refused(FORKED)
+        if self._is_copy:
+            raise Refused(COPIED)
         try:
             return call(self, *given, **named)
-        except (Full, NotCausal):
+        except (Full, NotCausal) as why:
+            if isinstance(why, Full) and why.is_wrong:
+                self._note_refused(str(why))
             raise
-        except Refused as why:
-            self._first_refused = self._first_refused or str(why)
-            self._refused += 1
+        except Exception as why:  # Refused; or what was given can't be looked at
+            self._note_refused(str(why) if isinstance(why, Refused) else _escaped(f"{type(why).__name__}: {why}"[:MOST_LETTERS]))
             raise
+
+    def _note_refused(self, words: str) -> None:
+        self._first_refused = self._first_refused or words
+        self._refused += 1
 
     def _refusals(self) -> List[str]:
         """That calls were refused, a line each, if what they say was not recorded later."""
         told = [f"a call was refused, and what it says never came: {words}" for _, (_, words) in sorted(self._open.items())[:1]]
+        if _FORKS[self._slot]:
+            told.insert(0, FORKED_TOLD)
         if self._refused == 1:
             return [f"a call was refused, so what it says is not recorded: {self._first_refused}", *told]
         if self._refused:

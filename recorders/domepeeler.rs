@@ -305,13 +305,13 @@ struct Refusals {
 }
 
 impl Refusals {
-    fn note(&mut self, why: &Refused) {
+    fn note(&mut self, why: &Refused, is_wrong: bool) {
         if let Refused::NotCausal { replica, change: (author, n), .. } = *why {
             let open = self.open.entry((replica, author)).or_insert((0, why.clone()));
             if n >= open.0 {
                 *open = (n, why.clone());
             }
-        } else if !why.is_full() {
+        } else if !why.is_full() || is_wrong {
             self.calls += 1;
             self.first.get_or_insert_with(|| why.clone());
         }
@@ -328,17 +328,19 @@ impl Refusals {
     }
 }
 
-/// How many lines the text had when it was last saved, and when a panic last told the verdict and the path; 0 where that never was.
+/// How many lines the text had when it was last saved, when a panic last told the verdict and the path, and when `assert_accepted` or the like
+/// last passed; 0 where that never was.
 #[derive(Default)]
 struct Seen {
     saved: AtomicUsize,
     told: AtomicUsize,
+    passed: AtomicUsize,
 }
 
 impl Clone for Seen {
     fn clone(&self) -> Seen {
         let same = |count: &AtomicUsize| AtomicUsize::new(count.load(Ordering::Relaxed));
-        Seen { saved: same(&self.saved), told: same(&self.told) }
+        Seen { saved: same(&self.saved), told: same(&self.told), passed: same(&self.passed) }
     }
 }
 
@@ -368,9 +370,14 @@ pub struct Recording {
 }
 
 /// Where a thread panics, the trace of a recording that is dropped is saved as `assert_accepted` saves it, if it has entries and was not saved;
-/// and standard error tells the verdict and the path, unless the panic itself does. Nothing here may panic, as that would end the program.
+/// and standard error tells the verdict and the path, unless the panic itself does. Nothing may panic then, as that would end the program.
+/// Else it panics where something was recorded after `assert_accepted` or the like, and was not saved: nothing has judged that.
 impl Drop for Recording {
     fn drop(&mut self) {
+        let (passed, saved) = (self.seen.passed.load(Ordering::Relaxed), self.seen.saved.load(Ordering::Relaxed));
+        if !std::thread::panicking() && passed != 0 && passed != self.lines() && saved != self.lines() && self.goal.is_none() {
+            panic!("something was recorded after the recording was judged, so it was not judged: move the assertion behind it, or repeat it");
+        }
         let is_told = self.stopped.is_some() || self.seen.told.load(Ordering::Relaxed) == self.lines();
         let last = match self.callers.last() {
             Some(last) if std::thread::panicking() && !is_told => last,
@@ -736,10 +743,10 @@ impl Recording {
     }
 
     /// For a test: panics unless the program accepts the recording and no warning says what that may hide, with the warnings and the words
-    /// of `explain`. It judges what is recorded by then: what comes later wants another call. It panics because `cargo test` hides what a
-    /// test that passes writes to standard error. The trace is then saved below the folder `failed_traces`, by the name of the test, and
-    /// where no tool explains it, the verdict stands in the place of the words. Of a recording of nothing it panics with the warning alone,
-    /// and saves no trace.
+    /// of `explain`. It judges what is recorded by then: what comes later wants another call, without which the recording panics when it is
+    /// dropped. It panics because `cargo test` hides what a test that passes writes to standard error. The trace is then saved below the
+    /// folder `failed_traces`, by the name of the test, and where no tool explains it, the verdict stands in the place of the words. Of a
+    /// recording of nothing it panics with the warning alone, and saves no trace.
     #[track_caller]
     pub fn assert_accepted(&self) {
         self.assert_right(Verdict::is_accepted, &[]);
@@ -766,6 +773,7 @@ impl Recording {
                 if !matches!(verdict, Verdict::Accepted { .. }) {
                     eprintln!("weak holds, strong doesn't");
                 }
+                self.seen.passed.store(self.lines(), Ordering::Relaxed);
                 return;
             }
             true if self.callers.is_empty() => panic!("{warnings}"),
@@ -1008,9 +1016,20 @@ impl Recording {
     /// What a call answers that records. If it is refused, that is remembered.
     fn noted<T>(&mut self, done: Result<T, Refused>) -> Result<T, Refused> {
         if let Err(why) = &done {
-            self.refusals.note(why);
+            let is_wrong = self.is_wrong(why);
+            self.refusals.note(why, is_wrong);
         }
         done
+    }
+
+    /// Whether a response that reaches a limit has more names than were inserted, with its own perhaps: it is wrong, whatever comes.
+    fn is_wrong(&self, why: &Refused) -> bool {
+        let names = match *why {
+            Refused::LongResponse { names } => names,
+            Refused::PlacesFull { replica, places } => places - self.replicas[replica].places,
+            _ => 0,
+        };
+        self.only.is_none() && names > self.replicas.iter().map(|own| own.inserts).sum::<usize>() + 1
     }
 
     /// The same of a call that says what has arrived at a replica. What was not causal there, and has come by now, is open no more.

@@ -54,7 +54,8 @@ ABSENT = errno.ENOENT, errno.ENAMETOOLONG  # what stands beside a log is not the
 RECEIPT = "recv [0-9]{1,7} [0-9]{1,7}"
 ENTRIES = {"trace 1": re.compile("[0-9]+ (%s|(ins|del|read) .*)" % RECEIPT, re.ASCII),
            "trace 2": re.compile("[0-9]+ (%s|(ins|del|read|view) .*)" % RECEIPT, re.ASCII)}
-STATUSES = ("It ends with status 0, or 1 if the logs can't be merged, 2 if one can't be read or the trace can't be written, 3 if memory ran out.")
+STATUSES = ("It ends with status 0, or 1 if the logs can't be merged, 2 if one can't be read or the trace can't be written, 3 if memory ran out. To standard output, "
+            "which has no file beside it, it ends with 2 also where a log is not what was saved, or a call was refused.")
 
 
 class Unmerged(ValueError):
@@ -345,6 +346,8 @@ def main():
         fail(1, str(why))
     if asked.output is None:
         write_out(text_of(lines))
+        if any(log.lost() or log.later() or log.refused for log in logs):  # no tool can tell it of the trace
+            sys.exit(2)
         return
     trace = text_of(lines).encode()
     if os.path.exists(asked.output) and not os.path.isfile(asked.output):  # a pipe or a device has no file beside it

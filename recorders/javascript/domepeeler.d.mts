@@ -2,7 +2,9 @@
 export class Refused extends Error {}
 
 /** The replica has reached a limit of traces: end this session, and begin another. */
-export class Full extends Refused {}
+export class Full extends Refused {
+  isWrong: boolean
+}
 
 /** An update was applied at a replica that lacks a change which the update's author had seen. */
 export class NotCausal extends Refused {}

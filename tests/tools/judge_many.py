@@ -923,6 +923,28 @@ def which_traces(tally: Tally, program: str, folder: str, other: str) -> None:
                Ended(2, b"", f"domepeeler-judge-many: there is no *.trace file below {folder}/empty\n".encode()))
 
 
+def beside_elsewhere(tally: Tally, program: str, folder: str) -> None:
+    """What stands beside a trace is compressed, or a link to nothing: that nobody knows whether the trace is whole is warned of."""
+    write(folder, {"a.trace": "0 ins a 0 : a"})
+    side = Path(folder, "a.trace.lines")
+    for what, make, why in ("compressed", lambda: Path(f"{side}.gz").write_bytes(b"\x1f\x8b"), "there is a.trace.lines.gz instead"), (
+            "a link to nothing", lambda: side.symlink_to("gone"), "it is a link to nothing"):
+        make()
+        got = judge(program, [folder])
+        tally.check(f"beside a trace: {what}", got.status == 0 and f"{side} can't be read ({why}), so nothing says whether the trace is whole" in got.err.decode(), got)
+        for left in side, Path(f"{side}.gz"):
+            left.unlink(missing_ok=True)
+
+
+def safe_paths(tally: Tally, program: str, folder: str) -> None:
+    """Where Python looks for modules in safe places alone, the tools find their own."""
+    write(folder, {"a.trace": "0 ins a 0 : a"})
+    for words in [TOOL, "--program", program, folder], [EXPLAIN, "--program", program, f"{folder}/a.trace"]:
+        done = subprocess.run([sys.executable, "-P", *words] if sys.version_info >= (3, 11) else words, capture_output=True, text=True,
+                              env={**os.environ, "PYTHONSAFEPATH": "1"})
+        tally.check(f"safe paths: {words[0]}", done.returncode == 0 and not done.stderr, done)
+
+
 def beside_links(tally: Tally, program: str, folder: str, other: str) -> None:
     """Of a trace behind a link what stands beside the link counts, or else what stands beside the trace that it leads to."""
     write(other, {"real.trace": "0 ins a 0 : a"})
@@ -1946,7 +1968,7 @@ def main() -> None:
         fails_at(tally, program, third)
         warnings(tally, program, folder)
         warnings_of_sessions(tally, program, other)
-    for check in (pythons, little_memory, not_looked_at, changing, told_of_what_was_judged, explained_once, weak, weak_junit, weak_in_ci,
+    for check in (pythons, beside_elsewhere, safe_paths, little_memory, not_looked_at, changing, told_of_what_was_judged, explained_once, weak, weak_junit, weak_in_ci,
                   known_as_cut, refused_calls, grouped, no_entries, no_files, overwriting, millions_of_names, odd_names, one_way_to_show, odd_words, names_like_commands, tasks, script_of_ci,
                   big_traces, time_of_small, time_of_big, long_cycles):
         with tempfile.TemporaryDirectory() as folder:

@@ -365,8 +365,11 @@ def test_waits():
 
 ENDS = {
     "python": '''
+import copy
 import os
+import pickle
 import pytest
+import unittest
 from domepeeler import Refused
 
 
@@ -458,6 +461,37 @@ def test_begins_none(domepeeler):
     pass
 
 
+class TestOfUnittest(unittest.TestCase):
+    @pytest.fixture(autouse=True)
+    def begin(self, domepeeler):
+        self.domepeeler = domepeeler
+
+    def test_skips(self):
+        for name in "cpu", "gpu":
+            with self.subTest(name=name):
+                if name == "gpu":
+                    self.skipTest("there is none")
+                self.domepeeler(1).insert(0, "a", 0, [])
+
+    def test_fails(self):
+        self.domepeeler(1).insert(0, "a", 0, [])
+        self.fail("nine is not ten")
+
+
+def test_copies(domepeeler):
+    recording = domepeeler(1)
+    recording.insert(0, "a", 0, ["a"])
+    for one in copy.deepcopy(recording), pickle.loads(pickle.dumps(recording)):
+        with pytest.raises(Refused, match="this is a copy of a recording"):
+            one.read(0, [])
+
+
+def test_removes_its_folder(domepeeler, tmp_path, monkeypatch):
+    monkeypatch.chdir(tmp_path)
+    tmp_path.rmdir()
+    domepeeler(1).insert(0, "a", 0, [])
+
+
 def test_forks(domepeeler):
     recording = domepeeler(1)
     recording.insert(0, "a", 0, ["a"])
@@ -509,6 +543,18 @@ def test_ends(ending):
 
 def test_last():
     pass
+'''
+
+# Calls whose lists can't be looked at.
+FAILING_CALLS = '''
+import { Recording } from "domepeeler"
+const recording = new Recording(2)
+recording.insert(0, "a", 0, ["a"])
+const fail = () => { throw new Error("no name") }
+const failing = { get 0() { return fail() }, length: 1, [Symbol.iterator]: fail }
+for (const act of [() => recording.read(0, failing), () => recording.receivedChanges(1, { [Symbol.iterator]: fail }),
+                   () => recording.delivered([["a"], failing])]) try { act() } catch { /* as an event loop does */ }
+console.log(recording.warnings()[0])
 '''
 
 # Tests of Node of which one ends the process, in its body or in a hook.
@@ -775,6 +821,43 @@ fn right() {
 #[test]
 fn lost() {
     checked(&[]).unwrap();
+}
+'''
+
+# What is recorded after the assertion, and what is saved then.
+RUST_LATE = '''
+use domepeeler::{Recording, Refused};
+
+fn passed() -> Result<Recording, Refused> {
+    let mut recording = Recording::new(1)?;
+    recording.insert(0, "a", 0, &["a"])?;
+    recording.assert_accepted();
+    Ok(recording)
+}
+
+#[test]
+#[should_panic(expected = "something was recorded after the recording was judged")]
+fn late() {
+    passed().unwrap().read(0, &["b"]).unwrap();
+}
+
+#[test]
+fn nothing() {
+    passed().unwrap();
+}
+
+#[test]
+fn again() {
+    let mut recording = passed().unwrap();
+    recording.read(0, &["a"]).unwrap();
+    recording.assert_accepted();
+}
+
+#[test]
+fn saved() {
+    let mut recording = passed().unwrap();
+    recording.read(0, &["b"]).unwrap();
+    recording.save("late.trace").unwrap();
 }
 '''
 
@@ -1137,19 +1220,23 @@ def check_ends_of_pytest(tally: Tally, place: Place, command: list) -> None:
     shutil.rmtree(kept)
     done = place.run(command, "python")
     tally.check("pytest: counts of ends", done.returncode == 1 and
-                "1 failed, 7 passed, 2 skipped, 1 xfailed, 3 warnings, 5 errors" in done.stdout, done.stdout)
+                "3 failed, 8 passed, 3 skipped, 1 xfailed, 4 warnings, 6 errors" in done.stdout, done.stdout)
     warned = done.stdout.partition("test_ends.py::test_begins_none")[2].partition("\n\n")[0]
     tally.check("pytest: warns of a test that takes the fixture and begins no recording",
                 "NothingRecorded: the fixture domepeeler began no recording, so nothing was judged" in warned, done.stdout)
     said = dict(zip(*[iter(re.split(r"^_{3,} (.+) _{3,}$", done.stdout.split("= short test summary")[0], flags=re.MULTILINE)[1:])] * 2))
     for name, words in ("ERROR at teardown of test_late", [LOST]), ("ERROR at teardown of test_begun_late", ["contents 0.1: "]), (
-            "ERROR at setup of test_set_up", ["no editor", "accepted"]), ("ERROR at teardown of test_skipped_and_wrong", ["contents 0.1: "]), ("ERROR at teardown of test_torn_down", ["no end", "accepted"]), (
+            "ERROR at setup of test_set_up", ["no editor", "accepted"]), ("ERROR at teardown of test_skipped_and_wrong", ["contents 0.1: "]), (
+            "ERROR at teardown of TestOfUnittest.test_skips", ["contents 0.1: "]), ("TestOfUnittest.test_fails", ["nine is not ten", "contents 0.1: "]), (
+            "test_removes_its_folder", ["contents 0.1: "]), ("ERROR at teardown of test_torn_down", ["no end", "accepted"]), (
             "test_fails_and_is_right", ["assert 5 == 6", "accepted", "\nYour notes\n  seed 17\n"]):
         text = said.get(name, "")
         tally.check(f"pytest: {name}", all(word in text for word in words) and "The trace is saved: " in text, (sorted(said), text))
     traces = sorted(path.name for path in kept.iterdir() if path.name.endswith(".trace"))
-    tally.check("pytest: traces of ends", traces == [f"test_ends.py--test_{name}.trace" for name in (
-        "begun_late", "fails_and_is_right", "late", "set_up", "skipped_and_wrong", "torn_down")], traces)
+    tally.check("pytest: traces of ends", [name for name in traces if "Unittest" not in name] == [f"test_ends.py--test_{name}.trace" for name in (
+        "begun_late", "fails_and_is_right", "late", "removes_its_folder", "set_up", "skipped_and_wrong", "torn_down")], traces)
+    tally.check("pytest: traces of tests of unittest", [name for name in traces if "Unittest" in name] == [
+        f"test_ends.py--TestOfUnittest--test_{name}.trace" for name in ("fails", "skips")], traces)
     tally.check("pytest: warns of what an accepted recording may hide", all(f"Unsure: {told}\n" in done.stdout for told in UNSURE),
                 done.stdout)
     for name, more in ("pytest", ["-p", "no:xdist"]), ("pytest-xdist", ["-n", "2", "--dist", "loadfile"]):
@@ -1157,7 +1244,7 @@ def check_ends_of_pytest(tally: Tally, place: Place, command: list) -> None:
     (place.folder / "python/test_later.py").unlink()
     check_cut_short(tally, place, [*command[:-1], "test_cut.py"])
     done = place.run([*command, "-k", "unsure", "-W", "error::domepeeler.pytest_plugin.Unsure"], "python")
-    tally.check("pytest: such a warning as an error", done.returncode == 1 and "1 passed, 11 deselected, 1 error" in done.stdout
+    tally.check("pytest: such a warning as an error", done.returncode == 1 and "1 passed, 15 deselected, 1 error" in done.stdout
                 and f"\nUnsure: {UNSURE[0]}\n" in done.stdout and "The trace is saved: " in done.stdout, done.stdout)
     broken = str(place.folder / "broken")
     for script, told in BROKEN:
@@ -1389,6 +1476,9 @@ def check_ends_of_node(tally: Tally, place: Place) -> None:
     done = place.run(words_refused, "packed", TIMER="1")
     tally.check("node --test: a call that is refused later still is told of", done.returncode == 1 and "ok 2 - timer" in done.stdout and
                 "timer: a call was refused when the test had ended, so what it says was not judged" in done.stdout, done.stdout)
+    done = place.run(["node", "--input-type=module", "-e", FAILING_CALLS], "packed")
+    tally.check("JavaScript: calls that fail otherwise are told of as refused ones", done.stdout ==
+                "3 calls were refused, so what they say is not recorded; the first: Error: no name\n", done.stdout)
     place.make("packed/exits.test.mjs", EXITS_OF_NODE)
     words_exits = [*words[:-1], "exits.test.mjs"]
     done = place.run(words_exits, "packed")
@@ -1463,10 +1553,11 @@ def check_rust(tally: Tally, place: Place) -> None:
     place.make("rust/tests/editor.rs", RUST_TEST)
     place.make("rust/tests/readme.rs", example("rust", "use domepeeler::Recording;"))
     place.make("rust/tests/front.rs", example("..", "mod domepeeler;\n").removeprefix("mod domepeeler;\n"))
-    tests = [word for name in ("editor", "readme", "front") for word in ("--test", name)]
+    place.make("rust/tests/late.rs", RUST_LATE)
+    tests = [word for name in ("editor", "readme", "front", "late") for word in ("--test", name)]
     done = place.run(["cargo", "test", "--offline", "--quiet", "--no-fail-fast", *tests], "rust")
     tally.check("cargo test: counts", done.returncode != 0 and "1 passed; 1 failed" in done.stdout and
-                done.stdout.count("1 passed; 0 failed") == 2, done.stdout)
+                done.stdout.count("1 passed; 0 failed") == 2 and "4 passed; 0 failed" in done.stdout, done.stdout)
     tally.check("cargo test: is explained", all(words in done.stdout for words in TOLD), done.stdout)
     saved = place.folder / "rust/failed.trace"
     tally.check("cargo test: saves", saved.is_file() and saved.read_text() == LOST_TRACE, done.stdout)

@@ -738,7 +738,8 @@ REFUSALS = [("none", ["received 0 1 2"], []),
             ("one that no trace can say", ["read 0 a;b", "received 0 1 2"], [CALL_REFUSED + NO_NAME]),
             ("several", ["read 0 a;b", "received 0 0 1", SECOND_FIRST], [f"2 {CALLS_REFUSED}{NO_NAME}", AT_0]),
             ("of calls that record nothing", ["note a%0Ab", "clock 9"], []),
-            ("at a limit", [f"read 0 {' '.join(ELEMENTS)}"], [])]
+            ("at a limit", [f"insert 0 n{i} 0 n{i}" for i in range(4097)], []),
+            ("at a limit, by more names than were inserted", [f"read 0 {' '.join(ELEMENTS)}"], [f"{CALL_REFUSED}a response of 4097 names; a trace takes at most 4096"])]
 
 
 def check_refusals(tally: Tally, recorder: Recorder, place: Path) -> None:
@@ -1532,7 +1533,35 @@ def check_python(tally: Tally) -> None:
         except KeyError:
             tally.check("py: a list that fails leaves the recording as it was", recording.text() == text and recording.ids() == {} and
                         recording.lines() == 7, recording.text())
+    for act in lambda: recording.insert(0, "b", 1), lambda: recording.received_changes(1, (change.id for change in [None])):
+        try:
+            act()
+        except (TypeError, AttributeError):
+            pass
+    told = recording.warnings()[0]
+    tally.check("py: calls that fail otherwise are told of as refused ones", told == f"4 {CALLS_REFUSED}KeyError: 'no name'", told)
+    check_forks(tally)
     check_threads(tally)
+
+
+def check_forks(tally: Tally) -> None:
+    """A process that is forked records into no copy, and the recording tells of it."""
+    from domepeeler import Recording, Refused
+    recording = Recording(1)
+    recording.insert(0, "a", 0, ["a"])
+    child = os.fork()
+    if not child:
+        status = 1
+        try:
+            recording.read(0, [])
+        except Refused as why:
+            status = 0 if "this process was forked" in str(why) else 2
+        finally:
+            os._exit(status)
+    status = os.waitpid(child, 0)[1]
+    tally.check("py: a forked process", status == 0 and recording.warnings() == [
+        "a forked process recorded into its copy of this recording, so what it says is not recorded"] and recording.lines() == 3, (status, recording.warnings()))
+    tally.check("py: another recording was not there", Recording(1).warnings()[0].startswith("nothing was recorded"))
 
 
 def check_threads(tally: Tally) -> None:
@@ -1844,7 +1873,7 @@ def check_merge_refused(tally: Tally, folder: Path) -> None:
     (place / "0.log.lines").write_bytes(b"3\nrefused name \x1b\n")
     done = subprocess.run([sys.executable, ROOT / "recorders" / "merge.py", "0.log"], cwd=place, capture_output=True, text=True, timeout=60)
     tally.check("merge.py: refused calls, to standard output", (done.returncode, done.stdout, done.stderr) == (
-        0, "trace 1\nreplicas 1\n0 read :\n", "merge.py: warning: 0.log: name \\x1b\n"), done)
+        2, "trace 1\nreplicas 1\n0 read :\n", "merge.py: warning: 0.log: name \\x1b\n"), done)
 
 
 def check_merge_hostile(tally: Tally, folder: Path) -> None:

@@ -16,6 +16,7 @@ MOST_GROWN = 1 << 16  # bytes that a file may have grown by, and still be read i
 CHANGED, CHANGED_BESIDE = "it changed while it was judged", "the file beside it changed while it was judged"
 SIDE = ".lines"  # the end of the name of a file beside the trace, in whose first line a recorder says how many lines it saved
 MOST_BESIDE = 1 << 27  # bytes of such a file
+PACKED = ".gz", ".bz2", ".xz", ".zst", ".lz4"  # ends of names of compressed files
 ABSENT = [os.strerror(number) for number in (errno.ENOENT, errno.ENAMETOOLONG)]
 
 
@@ -123,7 +124,15 @@ def side_of(path: str) -> Side:
     try:
         return Side(name, read_file(name, MOST_BESIDE))
     except Unread as error:
-        return Side(name, None, "" if str(error) in ABSENT else str(error))
+        return Side(name, None, absent(name) if str(error) in ABSENT else str(error))
+
+
+def absent(name: str) -> str:
+    """Why a file beside a trace that is not there may be there all the same: as a link to nothing, or compressed."""
+    if os.path.islink(name):
+        return "it is a link to nothing"
+    packed = [end for end in PACKED if os.path.lexists(name + end)]
+    return f"there is {shown(os.path.basename(name + packed[0]))} instead" if packed else ""
 
 
 def read_both(path: str) -> tuple:

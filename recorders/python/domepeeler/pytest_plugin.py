@@ -97,6 +97,7 @@ def domepeeler(request: pytest.FixtureRequest) -> Callable[..., Recording]:
 
     def begin(replicas: int, weak: bool = False, stop: bool = False) -> Recording:
         one = Judged(Recording(replicas, stop=stop, weak=weak and stop), weak)
+        one.recording._is_watched = True  # so that copies refuse what nothing would judge
         begun.has_any = True
         if begun.has_ended:
             watch(request.config, request.node.nodeid, [one])
@@ -110,6 +111,8 @@ def domepeeler(request: pytest.FixtureRequest) -> Callable[..., Recording]:
 @pytest.hookimpl(trylast=True)  # after the test itself has run, if it has passed
 def pytest_runtest_call(item: pytest.Item) -> None:
     begun: Begun = getattr(item, BEGUN, Begun())
+    if getattr(item, "_excinfo", None):  # a test of unittest that has failed, or was skipped: pytest tells of it behind this
+        return
     fail_by_faults(item, begun)
     begun.has_passed = True
 
@@ -271,7 +274,7 @@ def remove_saved(item: pytest.Item, begun: Begun) -> None:
 
 
 def path_of(item: pytest.Item, number: Optional[int]) -> Path:
-    return Path(item.config.getoption("--failed-traces")).absolute() / file_name(item.nodeid, number)
+    return item.config.invocation_params.dir / item.config.getoption("--failed-traces") / file_name(item.nodeid, number)
 
 
 def file_name(test: str, number: Optional[int]) -> str:
