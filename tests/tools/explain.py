@@ -84,7 +84,7 @@ WORDS = [
      "a: inserted by 0.1 (line 3)|b: inserted by 1.1 (line 4)|"
      "b arrived at replica 0 in line 5, a at replica 1 in line 6|"
      "Look at the order of concurrent inserts: a and b were inserted at the front without knowing of each other, and were shown in two different orders. "
-     "Use a rule that gives the same order everywhere (such as the replicas' numbers), and not each replica's order of arrival or a number set on arrival. No fast path may skip that rule.|"
+     "Use a rule that gives the same order everywhere (such as the replicas' numbers), and not each replica's order of arrival or a number it sets then. Short cuts must keep that rule.|"
      "If the list is sorted by position identifiers, look at those of a and b: are the two equal, does one differ between replicas, or are numbers "
      "compared as text?" + stop(6, "replica 1 applies 0.1", 5)),
     ("a replica that turns two elements round when it deletes another", 2, "0 ins a 0 : a|1 ins b 0 : b|1 recv 0 1|1 read : a b|1 ins c 2 : a b c|1 del c : b a",
@@ -126,8 +126,7 @@ WORDS = [
      "[a] before [b]: line 5 of the trace, 1.1: replica 1 inserted b at position 1, answered [a] [b]|"
      "[b] before [a]: line 7, 0.2: replica 0 read the list, answered [b] [a]|"
      "a arrived at replica 1 in line 4, b at replica 0 in line 6|"
-     "Look at where a replica places an incoming insert: replica 1 had [a] already when it inserted [b] (1.1, line 5), and so settled the "
-     "order of the two; yet two responses differ about it. Often the clock that decides between inserts does not advance when changes arrive, or the neighbour is not found; or elements are stored in runs (blocks of several), and a run is split at a wrong place: deleted elements count too.|"
+     "Look at where replica 0 placed [b], which came there in line 6: its author, replica 1, had [a] already when it inserted [b] (1.1, line 5), and put it behind [a]. That order must hold everywhere. Often the clock that decides between inserts does not advance when changes arrive, or the neighbour is not found; or elements are stored in runs (blocks of several), and a run is split at a wrong place: deleted elements count too.|"
      "If the list is sorted by position identifiers, print those of a and b at line 5. If they do not rise in this order, look at how the "
      "one of b was made; if they do, at how identifiers are compared (numbers must not be compared as text)." + stop(6, "replica 0 applies 1.1", 4)),
     ("three-way cycle", 3, THREE_WAY,
@@ -153,23 +152,22 @@ WORDS = [
      "c arrived at replica 0 in line 6, d at replica 1 in line 10||Where to look|"
      "If inserts find their place by a neighbour, look at inserts beside deleted elements: the lines "
      "above name an insert that arrived where its neighbour had been deleted. If replicas throw deleted elements away, nothing says then where the insert belongs; if they keep them, the search for its place must treat them like elements that are shown.|"
-     "Look at where a replica places an incoming insert: replica 0 had [c] already when it inserted [d] (0.3, line 9), and so settled the "
-     "order of the two; yet two responses differ about it. Often the clock that decides between inserts does not advance when changes arrive, or the neighbour is not found; or elements are stored in runs (blocks of several), and a run is split at a wrong place: deleted elements count too.|"
+     "Look at where replica 1 placed [d], which came there in line 10: its author, replica 0, had [c] already when it inserted [d] (0.3, line 9), and put it before [c]. That order must hold everywhere. Often the clock that decides between inserts does not advance when changes arrive, or the neighbour is not found; or elements are stored in runs (blocks of several), and a run is split at a wrong place: deleted elements count too.|"
      "If the list is sorted by position identifiers, print those of b, d and c at line 9. If they do not rise in this order, look at how "
      "the one of d was made; if they do, at how identifiers are compared (numbers must not be compared as text).|If the editor "
      "sends positions, the position of d was perhaps not adjusted for the delete of b by 1.2 (line 8), which replica 1 knew and the author of d did not." + stop(10, "replica 1 applies 0.3", 6)),
     ("an insert between two that were put together", 2, "0 ins a 0 : a|0 ins b 1 : a b|1 ins c 0 : c|1 recv 0 2|1 read : a c b|0 recv 1 1|0 read : a b c",
      "[c] before [b]: line 7, 1.2: replica 1 read the list, answered a [c] [b]|Where to look|"
-     "1.2 (line 7) shows [c] between [a] and [b], which was put directly behind [a]; the author of [c] knew neither. If inserts find their place by a "
-     "neighbour, look at how [c] found its place there: if the search skips [a], it must also skip all that was put behind [a].|"
+     "[b] was put directly behind [a]. The author of [c] knew neither, and 1.2 (line 7) shows [c] between the two. If inserts find their place by a "
+     "neighbour, look at how [c] found its place there: if the search goes past [a], it must also go past all that was put behind [a], also in the next block of a list that is kept in blocks.|"
      "Look at the order of concurrent inserts: b and c were inserted without knowing of each other, and were shown in two different orders. Use a rule that "
-     "gives the same order everywhere (such as the replicas' numbers), and not each replica's order of arrival or a number set on arrival. No fast path may skip that rule."),
+     "gives the same order everywhere (such as the replicas' numbers), and not each replica's order of arrival or a number it sets then. Short cuts must keep that rule."),
     ("an insert behind what the other author did not know, which is deleted", 2, "0 ins a 0 : a|0 ins b 1 : a b|0 del a : b|1 ins c 0 : c|1 recv 0 3|"
      "1 read : c b|0 recv 1 1|0 read : b c", "Where to look|"
+     "[b] was put directly behind [a], which the author of [c] did not know. If inserts find their place by a neighbour, look at how [c] found its "
+     "place: if the search goes past [a], it must also go past all that was put behind [a], also in the next block of a list that is kept in blocks.|"
      "Look at the order of concurrent inserts: b and c were inserted without knowing of each other, and were shown in two different orders. Use a rule that "
-     "gives the same order everywhere (such as the replicas' numbers), and not each replica's order of arrival or a number set on arrival. No fast path may skip that rule.|"
-     "[b] was put directly behind [a]; the author of [c] did not know [a]. If inserts find their place by a neighbour, look at how [c] found its "
-     "place: if the search skips [a], it must also skip all that was put behind [a]."),
+     "gives the same order everywhere (such as the replicas' numbers), and not each replica's order of arrival or a number it sets then. Short cuts must keep that rule."),
     ("an insert between two that are deleted by others", 3, "0 ins a 0 : a|0 ins b 1 : a b|1 recv 0 2|2 recv 0 2|2 ins c 1 : a c b|1 del a : b|"
      "0 del b : a|1 recv 0 3|1 read :|1 ins d 0 : d|1 recv 2 1|1 read : c d|2 recv 1 3|2 read : d c",
      "[d] before [c]: line 16 of the trace, 2.2: replica 2 read the list, answered [d] [c]|"
@@ -188,7 +186,17 @@ WORDS = [
     ("a session that goes on, with one list in the end", 2, f"{BESIDE_DELETED}|0 recv 1 2|0 read : c d",
      "When it went wrong|line 11 of the trace, 1.3: replica 1 read the list. Up to line 10 the session is accepted; line 11 leads to `refused 2`|"
      "before it: replica 1's 1.2 (line 8) answered c, which fits; since then it received 0.3 (line 10)|"
-     "in the end replicas 0 and 1 have every change, as the receipts say, and show the same list||Where to look" + stop(10, "replica 1 applies 0.3", 6)),
+     "in the end replicas 0 and 1 have every change, as the receipts say, and show the same list||Where to look|Only replica 0, which inserted "
+     "[d] (0.3, line 9), shows it before [c], and only until its next receipt (line 12); the others, and replica 0 itself in 0.4 (line 13), show it behind [c]. So the insert's change "
+     "says another place than the one where the replica itself shows it: look at how a local insert is put into the list, and at what its change carries." +
+     stop(9, "replica 0 inserts d", 10, 6)),
+    ("a replica turns round what it reads, and has received nothing", 2, "0 ins a 0 : a|1 ins b 0 : b|0 recv 1 1|0 read : a b|1 recv 0 1|1 read : b a|1 read : a b", "Where to look|"
+     "Replica 1 shows b before a in 1.2 (line 8), and a before b in 1.3 (line 9), though it received and changed nothing between. Something did that which is not recorded: behind a "
+     "server, perhaps its answer to the replica's own change. Then server and replica make different things of one change: look at which changes each of them adjusts it for. Client "
+     "and server must adjust alike, and each change once."),
+    ("a read that has other elements, where nothing was received", 2, "0 ins a 0 : a|0 ins b 1 : a b|1 recv 0 2|1 read : a b|0 del a : b|1 recv 0 3|1 read : b|1 read : a", "Where to look|"
+     "Replica 1 answered what is right in 1.2 (line 9), and has received nothing since. Look at what replica 1 itself does between the two; behind a server, at what its answer to the "
+     "replica's own change does there." + stop(10, "replica 1 reads the list")),
     ("a beginning that shows something else", 3, f"{THREE_WAY}|1 recv 0 2|1 recv 2 1|1 read : a b",
      "refused 3: three responses can't be right together. Any two of them can. This is what went wrong first, within the "
      "first 11 lines. The verdict on the whole trace is `refused 2` (told below).||"
@@ -385,7 +393,7 @@ WORDS = [
      "Look first at whether 0.2 (line 4) was lost on its way to replica 1, or overtaken: no receipt there names it, though all other changes of "
      "replica 0 have one. In an editor that sends positions, later changes then land in the wrong place.|"
      "Look at the order of concurrent inserts: c and y were inserted directly behind a without knowing of each other, and were shown in two different orders. Use a "
-     "rule that gives the same order everywhere (such as the replicas' numbers), and not each replica's order of arrival or a number set on arrival. No fast path may skip that rule."
+     "rule that gives the same order everywhere (such as the replicas' numbers), and not each replica's order of arrival or a number it sets then. Short cuts must keep that rule."
      + stop(4, "replica 0 inserts b, and follow 0.2 to replica 1")),
     ("a delete that meets an insert and a delete which did not know each other", 2, "0 ins a 0 : a|0 ins b 1 : a b|0 ins c 2 : a b c|1 recv 0 3|"
      "1 read : a b c|0 del a : b c|1 ins d 3 : a b c d|0 recv 1 2|0 read : b c d|1 del c : a b d|0 recv 1 3|0 read : b c",
@@ -397,8 +405,7 @@ WORDS = [
      "writes the name of the element that was deleted.|If the editor sends positions, the position of 1.2 was perhaps not adjusted for the insert of c by 0.3 (line 8), which the author of 1.2 had not seen." + stop(9, "replica 0 applies 1.2")),
     ("an insert that another one at its place has shifted", 2, "0 ins b 0 : b|0 ins c 0 : c b|1 ins a 0 : a|1 recv 0 1|1 read : a b|1 recv 0 2|"
      "1 read : a b c",
-     "Look at where a replica places an incoming insert: replica 0 had [b] already when it inserted [c] (0.2, line 4), and so settled the order "
-     "of the two; yet two responses differ about it. Often the clock that decides between inserts does not advance when changes arrive, or the neighbour is not found; or elements are stored in runs (blocks of several), and a run is split at a wrong place: deleted elements count too. At the place of c also "
+     "Look at where replica 1 placed [c], which came there in line 8: its author, replica 0, had [b] already when it inserted [c] (0.2, line 4), and put it before [b]. That order must hold everywhere. Often the clock that decides between inserts does not advance when changes arrive, or the neighbour is not found; or elements are stored in runs (blocks of several), and a run is split at a wrong place: deleted elements count too. At the place of c also "
      "a was inserted, and neither author had the other's insert. Look also at which of them comes first." + stop(8, "replica 1 applies 0.2", 6)),
     ("a receipt that comes before the change is applied", 2, "0 ins a 0 : a|1 recv 0 1|1 read : a|0 ins b 1 : a b|0 del a : b|1 recv 0 3|1 read : a",
      "contents 1.2: this response lacks one element that replica 1 should have had by then, and has one element that should not be there.||"
@@ -441,13 +448,12 @@ WORDS = [
      "line 4 of the trace, 1.2: replica 1 read the list. Up to line 3 the session is accepted; line 4 leads to `contents 1.2`|"
      "the first 4 lines are enough to show it (`head -4`)||The response|line 4 of the trace, 1.2: replica 1 read the list|answered: (nothing)|"
      "[a] inserted by 1.1 (line 3), an earlier operation of replica 1|[a] no operation deletes it||Where to look|"
-     "Replica 1 showed a in 1.1 (line 3), and has received nothing since. Look at what replica 1 itself does between the two." + stop(4, "replica 1 reads the list")
+     "Replica 1 answered what is right in 1.1 (line 3), and has received nothing since. Look at what replica 1 itself does between the two; behind a server, at what its answer to the replica's own change does there." + stop(4, "replica 1 reads the list")
      + "||What the verdict on the whole trace is about|line 7, 0.2: replica 0 read the list, answered (nothing): this response lacks one element that replica 0 should have had "
      "by then|it lacks a||The list specifications|by the whole trace, strong and weak fail"),
     ("a delete that meets an insert which did not know it", 2, "0 ins a 0 : a|0 ins b 1 : a b|0 ins c 2 : a b c|1 recv 0 3|1 read : a b c|1 del a : b c|"
      "0 ins d 2 : a b d c|1 recv 0 4|1 read : b c d",
-     "Look at where a replica places an incoming insert: replica 0 had [c] already when it inserted [d] (0.4, line 9), and so settled the "
-     "order of the two; yet two responses differ about it. Often the clock that decides between inserts does not advance when changes arrive, or the neighbour is not found; or elements are stored in runs (blocks of several), and a run is split at a wrong place: deleted elements count too.|If the editor "
+     "Look at where replica 1 placed [d], which came there in line 10: its author, replica 0, had [c] already when it inserted [d] (0.4, line 9), and put it before [c]. That order must hold everywhere. Often the clock that decides between inserts does not advance when changes arrive, or the neighbour is not found; or elements are stored in runs (blocks of several), and a run is split at a wrong place: deleted elements count too.|If the editor "
      "sends positions, the position of d was perhaps not adjusted for the delete of a by 1.2 (line 8), which replica 1 knew and the author of d did not." + stop(10, "replica 1 applies 0.4", 6)),
     ("a delete that becomes nothing beside an insert that its author did not know", 2, "0 ins a 0 : a|1 recv 0 1|1 read : a|0 del a :|"
      "1 ins b 0 : b a|1 recv 0 2|1 read : b a",
@@ -2041,6 +2047,13 @@ def small(tally: Tally, program: str, folder: str) -> None:
             turned = turned_at(meant, meant_report)
             stop_lines = [turned, *(line for line in stop_lines if stops and line != turned)] if turned else stop_lines
             wrong["turned"] += bool(turned)
+            look = paragraph(said, "Where to look").splitlines()
+            is_lost = re.match(r"  Look first at whether \S+ \(line (\d+)\)", look[0])
+            alone = next(filter(None, (re.match(r"  Only replica \d+, which inserted \[\S+\] \(\S+, line (\d+)\)", line) for line in look)), None)
+            if is_lost:
+                stop_lines = [int(is_lost[1])]
+            elif alone:
+                stop_lines = [int(alone[1]), *(line for line in stop_lines if line != int(alone[1]))]
             stopped = paragraph(said, "In a debugger").partition(" In Python,")[0]
             tally.check("refused: where to stop a debugger", [int(line) for line in re.findall(r"\bline (\d+)", stopped)] == stop_lines,
                         f"{whole}{stops}\n{got}")

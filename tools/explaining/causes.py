@@ -54,7 +54,8 @@ UNKNOWN = ("No line inserts {names}. Perhaps the insert was not recorded, or und
            "what was there, and the others receive it.")
 REPLACED = ("Replica {replica} showed {missing} in {before}; since then it only received {came}, and none of what has come deletes {it}. Look at what {came_first} does there: "
             "does an arriving state replace the replica's own, or does the editor take back its own changes when others' arrive?")
-VANISHED = "Replica {replica} showed {missing} in {before}, and has received nothing since. Look at what replica {replica} itself does between the two."
+VANISHED = ("Replica {replica} answered what is right in {before}, and has received nothing since. Look at what replica {replica} itself does between the two; behind a server, at "
+            "what its answer to the replica's own change does there.")
 TOO_MUCH = ("It looks as if {deletes}, applied at replica {replica}, deleted {missing} along with {theirs}: {missing} stood there in {before}, and no change that "
             "has come since deletes {it}. Look at where the replica begins to delete there, and at how many elements it deletes.")
 SECOND_DELETE = ("It looks as if {again}, applied at replica {replica}, deleted {missing} instead of {element}: look at how a replica that applies a delete "
@@ -96,23 +97,29 @@ WEAK_ALONE_HOLDS = ("An editor whose server orders all changes, as Jupiter's doe
                     "such a one, nothing is wrong here: ask for weak alone, in the tools by --weak.")
 SETTLED = ("Look at where a replica places an incoming insert beside a deleted element: {first} was put before {middle} ({op_first}), and {then} behind it ({op_then}), so "
            "{middle} settles their order, also where it is deleted; yet they were shown in two different orders. No rule for concurrent inserts at one place may decide here.")
-BETWEEN = ("{operation} shows [{other}] between [{behind}] and [{element}], which was put directly behind [{behind}]; the author of [{other}] knew neither. If inserts "
-           "find their place by a neighbour, look at how [{other}] found its place there: if the search skips [{behind}], it must also skip all that was put behind [{behind}].")
-BEHIND_UNKNOWN = ("[{element}] was put directly behind [{behind}]; the author of [{other}] did not know [{behind}]. If inserts find their place by a neighbour, look at how "
-                  "[{other}] found its place: if the search skips [{behind}], it must also skip all that was put behind [{behind}].")
+PAST = ("If inserts find their place by a neighbour, look at how [{other}] found its place{there}: if the search goes past [{behind}], it must also go past all that was put "
+        "behind [{behind}], also in the next block of a list that is kept in blocks.")
+BETWEEN = "[{element}] was put directly behind [{behind}]. The author of [{other}] knew neither, and {operation} shows [{other}] between the two. "
+BEHIND_UNKNOWN = "[{element}] was put directly behind [{behind}], which the author of [{other}] did not know. "
 CONCURRENT = ("Look at the order of concurrent inserts: {first} and {then} were inserted{place} without knowing of each other, and were shown "
               "in two different orders. Use a rule that gives the same order everywhere (such as the replicas' numbers), and not each replica's order of "
-              "arrival or a number set on arrival. No fast path may skip that rule.")
+              "arrival or a number it sets then. Short cuts must keep that rule.")
 POSITIONS = ("Look at how a position is adjusted where a change arrives: the position of {element} was perhaps not adjusted for {changes}, which "
              "replica {replica} knew and the author of {element} did not{back}. Or look at the order of concurrent inserts: {first} and {then} were inserted without knowing of each "
-             "other, and were shown in two different orders. Use a rule that gives the same order everywhere (such as the replicas' numbers).")
+             "other, and were shown in two different orders. Use a rule that gives the same order everywhere (such as the replicas' numbers). Client and server must adjust alike, and each change once.")
 EITHER = ("Look at the order of concurrent inserts: {first} and {then} were inserted at one place without knowing of each other, and were shown in two "
           "different orders. Either the rule that orders them is not the same everywhere; or the position of {element} was not adjusted for {changes}, "
-          "which replica {replica} knew and the author of {element} did not{back}.")
+          "which replica {replica} knew and the author of {element} did not{back}. Client and server must adjust alike, and each change once.")
 REBASED = ("Replica {replica} inserted both {one} and {two} itself. If the editor takes back its own changes when others' arrive, and applies them anew (rebasing), look at "
            "where that puts them.")
-SEEN = ("Look at where a replica places an incoming insert: replica {author} had [{old}] already when it inserted [{new}] ({later}, line {line}), and so "
-        "settled the order of the two; yet two responses differ about it.{numbers}")
+SEEN = ("Look at where replica {replica} placed [{new}]{arrived}: its author, replica {author}, had [{old}] already when it inserted [{new}] ({later}, line {line}), and put it "
+        "{side} [{old}]. That order must hold everywhere.{numbers}")
+SHOWN_ALONE = ("Only replica {replica}, which inserted [{new}] ({insert}, line {line}), shows it {side} [{old}], and only until its next receipt (line {receipt}); the "
+               "others, and replica {replica} itself in {own}, show it {other_side} [{old}]. So the insert's change "
+               "says another place than the one where the replica itself shows it: look at how a local insert is put into the list, and at what its change carries.")
+TURNED_BY_ITSELF = ("Replica {replica} shows {two} before {one} in {before}, and {one} before {two} in {after}, though it received and changed nothing between. Something did that "
+                    "which is not recorded: behind a server, perhaps its answer to the replica's own change. Then server and replica make different things of one change: look at "
+                    "which changes each of them adjusts it for. Client and server must adjust alike, and each change once.")
 MOVED_INSERT = ("If the editor sends positions, the position of {element} was perhaps not adjusted for {changes}, which replica {replica} "
                 "knew and the author of {element} did not{back}.")
 MOVED_BACK = {True: "; or the position of the delete was not adjusted for an insert that the author of the delete had not seen",
@@ -150,8 +157,11 @@ def of_contents(evidence: Evidence) -> list:
     found += more
     found = [*lost(evidence), *found] if is_loss_first else [*found, *lost(evidence)]
     found += brought(evidence, not found)
-    found += replaced(evidence) if not found else []
     unknown = [name for name in evidence.surplus if name not in evidence.recording.inserts]
+    itself = vanished(evidence) if not found and not unknown else []
+    if itself:
+        return itself
+    found += replaced(evidence) if not found else []
     if unknown:
         found = [Cause("unknown", UNKNOWN.format(names=listed(unknown, MOST_TOLD))), *found]
     these = "If none of these is the cause" if found[1:] else "If that is not the cause"
@@ -307,17 +317,25 @@ def too_much(evidence: Evidence) -> list:
                                               theirs=listed(list(dict.fromkeys(delete.element for delete in deletes)), MOST_TOLD)))]
 
 
+def vanished(evidence: Evidence) -> list:
+    """Of a read whose replica answered right before, and has received nothing since, where no receipt is missing that tells it all."""
+    operation = evidence.operations[0]
+    before, receipts = evidence.before(operation)
+    if not before or before[0].kind == "view" or receipts or operation.kind != "read" or evidence.otherwise[1]:
+        return []
+    return [Cause("vanished", VANISHED.format(replica=operation.replica, before=at(before[0])))]
+
+
 def replaced(evidence: Evidence) -> list:
-    """Of a response that lacks what its replica showed before, and has nothing that should not be there, where no delete has come since."""
+    """Of a response that lacks what its replica showed before, and has nothing that should not be there, where changes have come since, and no
+    delete among them."""
     operation = evidence.operations[0]
     before = next((one for one in reversed(evidence.recording.streams[operation.replica][:operation.n - 1]) if one.kind != "view"), None)
-    if before is None or evidence.surplus or not evidence.missing or not set(evidence.missing) <= set(before.response) or operation.kind == "del":
+    if before is None or evidence.surplus or not evidence.missing or not set(evidence.missing) <= set(before.response) or operation.kind != "read":
         return []
     came = evidence.came_between(before, operation)
-    if any(change.kind == "del" for change in came):
+    if not came or any(change.kind == "del" for change in came):
         return []
-    if not came:
-        return [Cause("vanished", VANISHED.format(replica=operation.replica, missing=listed(evidence.missing, MOST_TOLD), before=at(before)))]
     return [Cause("replaced", REPLACED.format(replica=operation.replica, missing=listed(evidence.missing, MOST_TOLD), before=at(before), came=named(came),
                                               it="them" if evidence.missing[1:] else "it", came_first=came[-1].name))]
 
@@ -373,8 +391,8 @@ def is_younger_by_name(name: str, others: list) -> bool:
 
 
 def reordered(evidence: Evidence) -> list:
-    """That a replica showed two elements in one order, and then in the other."""
-    if evidence.reordered is None:
+    """That a replica showed two elements in one order, and then in the other; but where that is told already."""
+    if evidence.reordered is None or evidence.turned_by_itself is not None and evidence.turned_by_itself[3] is evidence.reordered[3]:
         return []
     two, one, before, after = evidence.reordered
     came = evidence.came_between(before, after)
@@ -401,7 +419,7 @@ def came_between(evidence: Evidence) -> list:
     if evidence.between is None:
         return []
     other, element, behind, operation = evidence.between
-    return [Cause("between", BETWEEN.format(operation=at(operation), other=other, element=element, behind=behind))]
+    return [Cause("between", BETWEEN.format(operation=at(operation), other=other, element=element, behind=behind) + PAST.format(other=other, behind=behind, there=" there"))]
 
 
 def behind_unknown(evidence: Evidence, first: Operation, then: Operation) -> list:
@@ -409,7 +427,7 @@ def behind_unknown(evidence: Evidence, first: Operation, then: Operation) -> lis
     for one, other in ((first, then), (then, first)) if evidence.between is None else ():
         behind = neighbours(one)[0]
         if behind in evidence.recording.inserts and not other.has_seen(evidence.recording.inserts[behind][0]):
-            return [Cause("behind unknown", BEHIND_UNKNOWN.format(element=one.element, behind=behind, other=other.element))]
+            return [Cause("behind unknown", BEHIND_UNKNOWN.format(element=one.element, behind=behind, other=other.element) + PAST.format(other=other.element, behind=behind, there=""))]
     return []
 
 
@@ -430,30 +448,61 @@ def of_refusal(evidence: Evidence, weak: bool) -> list:
         moved = moved_over(evidence)
         if weak and moved:
             told = (EITHER if are_put_at_once(first, then) else POSITIONS).format(first=first.element, then=then.element, **moved)
-            return [*lost(evidence), *reordered(evidence), *came_between(evidence), Cause("concurrent", told), *beside_deleted(evidence)]
+            return [*turned_by_itself(evidence), *lost(evidence), *reordered(evidence), *came_between(evidence), Cause("concurrent", told), *beside_deleted(evidence)]
         settled = settled_by_another(evidence, first, then)
-        concurrent = settled or [Cause("concurrent", CONCURRENT.format(first=first.element, then=then.element, place=place_of_both(first, then))),
-                                 *behind_unknown(evidence, first, then)]
-        causes = [concurrent, beside_deleted(evidence)]
-        is_deleted_first = evidence.lost_neighbours and not are_put_at_once(first, then)
-        return [*lost(evidence), *reordered(evidence), *came_between(evidence), *sum(causes[::-1] if is_deleted_first else causes, []), sorted_alike(evidence), *moved_insert(moved)]
+        concurrent = settled or [*behind_unknown(evidence, first, then),
+                                 Cause("concurrent", CONCURRENT.format(first=first.element, then=then.element, place=place_of_both(first, then)))]
+        is_told = evidence.between is not None or bool(concurrent[1:])
+        causes = [concurrent, beside_deleted(evidence, is_told)]
+        is_deleted_first = evidence.lost_neighbours and not are_put_at_once(first, then) and not is_told
+        return [*turned_by_itself(evidence), *lost(evidence), *reordered(evidence), *came_between(evidence), *sum(causes[::-1] if is_deleted_first else causes, []), sorted_alike(evidence), *moved_insert(moved)]
     later, old = (first, then) if first.has_seen(then) else (then, first)
     moved = moved_over(evidence)
-    told = SEEN.format(author=later.replica, later=later.name, line=later.line, new=later.element, old=old.element,
-                       numbers="" if weak and moved else NUMBERS_OF_INSERTS)
+    told = seen(evidence, later, old, "" if weak and moved else NUMBERS_OF_INSERTS)
     told += put_meanwhile(evidence, later) or put_meanwhile(evidence, old)
     if weak and moved:
-        return [*lost(evidence), *reordered(evidence), Cause("seen", told), *moved_insert(moved), *beside_deleted(evidence)]
+        return [*turned_by_itself(evidence), *lost(evidence), *shown_alone(evidence), *reordered(evidence), Cause("seen", told), *moved_insert(moved), *beside_deleted(evidence)]
     place = later.response.index(later.element)
     beside = later.response[max(place - 1, 0):place + 2]
     names = [name for name in later.response if name in beside or name == old.element]
     sorted_by = identifiers(later, names[:names.index(later.element)], names[names.index(later.element) + 1:])
     turned = reordered(evidence)
     if turned and first.replica == then.replica == evidence.reordered[3].replica:
-        seen = Cause("rebased", REBASED.format(replica=first.replica, one=first.element, two=then.element))
+        last = Cause("rebased", REBASED.format(replica=first.replica, one=first.element, two=then.element))
     else:
-        seen = Cause("seen", told)
-    return [*lost(evidence), *turned, *beside_deleted(evidence), seen, *sorted_by, *moved_insert(moved)]
+        last = Cause("seen", told)
+    alone = shown_alone(evidence)
+    return [*turned_by_itself(evidence), *lost(evidence), *alone, *turned, *beside_deleted(evidence, bool(alone)), last, *sorted_by, *moved_insert(moved)]
+
+
+def seen(evidence: Evidence, later: Operation, old: Operation, numbers: str) -> str:
+    """Of an insert whose author had the other one, which replica shows them otherwise, and when the insert came there."""
+    names = [name for name in later.response if name in (later.element, old.element)]
+    side = "before" if names[0] == later.element else "behind"
+    unlike = next((operation for operation in evidence.operations if [name for name in operation.response if name in names] != names), evidence.operations[0])
+    arrival = evidence.recording.arrival(later, unlike.replica) if unlike.replica != later.replica else None
+    arrived = f", which came there in line {arrival.line}" if arrival is not None and not evidence.recording.is_delivered(arrival.line) else ""
+    return SEEN.format(replica=unlike.replica, author=later.replica, later=later.name, line=later.line, new=later.element, old=old.element, side=side, arrived=arrived,
+                       numbers=numbers)
+
+
+def shown_alone(evidence: Evidence) -> list:
+    """Of an insert that its author alone shows so, and only until it has received something."""
+    if evidence.shown_alone is None:
+        return []
+    insert, other, receipt, own = evidence.shown_alone
+    names = [name for name in insert.response if name in (insert.element, other.element)]
+    side, other_side = ("before", "behind")[::1 if names[0] == insert.element else -1]
+    return [Cause("shown alone", SHOWN_ALONE.format(replica=insert.replica, new=insert.element, insert=insert.name, line=insert.line, old=other.element, side=side,
+                                                     other_side=other_side, receipt=receipt.line, own=at(own)))]
+
+
+def turned_by_itself(evidence: Evidence) -> list:
+    """That a replica reads two elements in another order than before, and has received nothing between."""
+    if evidence.turned_by_itself is None:
+        return []
+    one, two, before, after = evidence.turned_by_itself
+    return [Cause("turned by itself", TURNED_BY_ITSELF.format(replica=after.replica, one=one, two=two, before=at(before), after=at(after)))]
 
 
 def settled_by_another(evidence: Evidence, first: Operation, then: Operation) -> list:
@@ -486,8 +535,9 @@ def moved_insert(moved: dict) -> list:
     return [Cause("positions", MOVED_INSERT.format(**moved))] if moved else []
 
 
-def beside_deleted(evidence: Evidence) -> list:
-    if not evidence.lost_neighbours and not evidence.hidden_neighbours:
+def beside_deleted(evidence: Evidence, is_told_otherwise: bool = False) -> list:
+    """Of inserts beside deleted elements; where the order is told otherwise, of those alone that came when these were deleted."""
+    if not evidence.lost_neighbours and (is_told_otherwise or not evidence.hidden_neighbours):
         return []
     which = "an insert that arrived where its neighbour had been deleted" if evidence.lost_neighbours else "an insert whose neighbour was deleted later"
     return [Cause("beside deleted", BESIDE_DELETED.format(which=which))]

@@ -36,7 +36,7 @@ def stop_of(evidence: Evidence) -> tuple:
         arrived = {arrival.receipt.line: arrival.receipt for arrival in evidence.arrivals
                    if not evidence.recording.is_delivered(arrival.receipt.line)}
         *others, entry = list(arrived.values()) or [max(evidence.operations, key=lambda operation: operation.line)]
-        first = reordering(evidence) or came_between(evidence)
+        first = evidence.shown_alone[0] if evidence.shown_alone else reordering(evidence) or came_between(evidence)
         arrivals = [entry, *others[::-1]] if arrived else []
         return (first, [other for other in arrivals if other.line != first.line]) if first else (entry, others[::-1])
     named = evidence.operations[0]

@@ -127,6 +127,41 @@ class Evidence:
         pair = next((pair for pair in turned if set(pair) & set(self.elements)), turned[0] if turned else None)
         return (*pair, before, operation) if pair else None
 
+    @cached_property
+    def shown_alone(self) -> tuple | None:
+        """Of a refusal of two of which one's author had the other, whether its order is shown by its author alone, and only until its next receipt: the
+        insert, the other one, that receipt, and the author's first response behind it that shows them as all others do."""
+        if self.report.get("k") != 2:
+            return None
+        first, then = (self.recording.inserts[name][0] for name in self.elements)
+        if not first.has_seen(then) and not then.has_seen(first):
+            return None
+        insert, other = (first, then) if first.has_seen(then) else (then, first)
+        names = [name for name in insert.response if name in (insert.element, other.element)]
+        shown = [one for stream in self.recording.streams for one in stream if names[1:] and {*names} <= {*one.response}]
+        unlike = [one for one in shown if not follows(names, one.response)]
+        receipt = next((one for one in self.recording.receipts[insert.replica] if one.before >= insert.n), None)
+        alike = [one for one in shown if one not in unlike]
+        own = next((one for one in unlike if one.replica == insert.replica), None)
+        if receipt is None or own is None or all(one.replica == insert.replica for one in unlike) or any(
+                one.replica != insert.replica or one.line > receipt.line for one in alike):
+            return None
+        return insert, other, receipt, own
+
+    @cached_property
+    def turned_by_itself(self) -> tuple | None:
+        """Of a refusal of two, two elements that some replica reads in another order than in its response before, though it received nothing between: in
+        the order of the later one, with both responses. Best are the two that the verdict is about; one of them has to be."""
+        if self.report.get("k") != 2:
+            return None
+        found = []
+        for stream, receipts in zip(self.recording.streams, self.recording.receipts):
+            received = {receipt.before for receipt in receipts}
+            for before, after in zip(stream, stream[1:]):
+                if after.kind == "read" and before.kind != "view" and before.n not in received:
+                    found += [(one, two, before, after) for one, two in turned(before.response, after.response) if {one, two} & set(self.elements)]
+        return next((pair for pair in found if {*pair[:2]} == set(self.elements)), found[0] if found else None)
+
     def came_between(self, before: Operation, after: Operation) -> list:
         """The changes of others that came to a replica between two operations of it."""
         return [change for change in self.recording.changes() if change.replica != after.replica and after.has_seen(change) and not before.has_seen(change)]
@@ -447,6 +482,14 @@ class Evidence:
             is_wanted = self.report["verdict"] == "contents" or changes is inserts
             found += seen[:1] if seen else changes[:1] if is_wanted else []
         return found
+
+
+def turned(names: list, later: list) -> list:
+    """The pairs of names that stand one behind the other in a later list, of those that it shares with an earlier one, where they stand the other
+    way round."""
+    places = {name: place for place, name in enumerate(names)}
+    common = [name for name in later if name in places]
+    return [(one, two) for one, two in zip(common, common[1:]) if places[one] > places[two]]
 
 
 def follows(names: list, order: list) -> bool:
