@@ -165,7 +165,8 @@ WORDS = [
     ("an insert behind what the other author did not know, which is deleted", 2, "0 ins a 0 : a|0 ins b 1 : a b|0 del a : b|1 ins c 0 : c|1 recv 0 3|"
      "1 read : c b|0 recv 1 1|0 read : b c", "Where to look|"
      "[b] was put directly behind [a], which the author of [c] did not know. If inserts find their place by a neighbour, look at how [c] found its "
-     "place: if the search goes past [a], it must also go past all that was put behind [a], also in the next block of a list that is kept in blocks.|"
+     "place: if the search goes past [a], it must also go past all that was put behind [a], also in the next block of a list that is kept in blocks. Look also at inserts beside "
+     "deleted elements: where [a] was thrown away as deleted, nothing says where [b] belongs.|"
      "Look at the order of concurrent inserts: b and c were inserted without knowing of each other, and were shown in two different orders. Use a rule that "
      "gives the same order everywhere (such as the replicas' numbers), and not each replica's order of arrival or a number it sets then. Short cuts must keep that rule."),
     ("an insert between two that are deleted by others", 3, "0 ins a 0 : a|0 ins b 1 : a b|1 recv 0 2|2 recv 0 2|2 ins c 1 : a c b|1 del a : b|"
@@ -610,7 +611,7 @@ OTHERS = [("echo hello", "0"), ("exit 0", "0"), ("echo '[]'", "0"), ("echo 5; ex
 # the bugs in this order.
 PLANTED = {
     "tombstone": (150, 50, ["beside deleted elements"]),
-    "tie": (100, 50, ["order of concurrent inserts", "rule that orders concurrent inserts", "where a replica places an incoming insert"]),
+    "tie": (100, 50, ["order of concurrent inserts", "rule that orders concurrent inserts", "That order must hold everywhere"]),
     "clock": (300, 20, ["decides by numbers (a clock, ids) which of two inserts", "the clock that decides between inserts"]),
     "mapping": (150, 40, ["perhaps not adjusted for the delete", "perhaps not adjusted for the insert"]),
     "unmoved": (80, 40, [" was perhaps not adjusted for", "not adjusted for an insert", "not adjusted for inserts"]),

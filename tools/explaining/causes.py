@@ -101,6 +101,7 @@ PAST = ("If inserts find their place by a neighbour, look at how [{other}] found
         "behind [{behind}], also in the next block of a list that is kept in blocks.")
 BETWEEN = "[{element}] was put directly behind [{behind}]. The author of [{other}] knew neither, and {operation} shows [{other}] between the two. "
 BEHIND_UNKNOWN = "[{element}] was put directly behind [{behind}], which the author of [{other}] did not know. "
+BEHIND_DELETED = " Look also at inserts beside deleted elements: where [{behind}] was thrown away as deleted, nothing says where [{element}] belongs."
 CONCURRENT = ("Look at the order of concurrent inserts: {first} and {then} were inserted{place} without knowing of each other, and were shown "
               "in two different orders. Use a rule that gives the same order everywhere (such as the replicas' numbers), and not each replica's order of "
               "arrival or a number it sets then. Short cuts must keep that rule.")
@@ -427,8 +428,14 @@ def behind_unknown(evidence: Evidence, first: Operation, then: Operation) -> lis
     for one, other in ((first, then), (then, first)) if evidence.between is None else ():
         behind = neighbours(one)[0]
         if behind in evidence.recording.inserts and not other.has_seen(evidence.recording.inserts[behind][0]):
-            return [Cause("behind unknown", BEHIND_UNKNOWN.format(element=one.element, behind=behind, other=other.element) + PAST.format(other=other.element, behind=behind, there=""))]
+            return [Cause("behind unknown", BEHIND_UNKNOWN.format(element=one.element, behind=behind, other=other.element) + PAST.format(other=other.element, behind=behind, there="")
+                          + BEHIND_DELETED.format(element=one.element, behind=behind) * is_deleted(evidence, behind))]
     return []
+
+
+def is_deleted(evidence: Evidence, name: str) -> bool:
+    """Whether an element is deleted for one of the responses of a refusal."""
+    return any(operation.has_seen(delete) for operation in evidence.operations for delete in evidence.recording.deletes.get(name, []))
 
 
 def sorted_alike(evidence: Evidence) -> Cause:
@@ -511,7 +518,7 @@ def settled_by_another(evidence: Evidence, first: Operation, then: Operation) ->
     for one, other in (first, then), (then, first):
         before, behind = one.response[one.response.index(one.element) + 1:], other.response[:other.response.index(other.element)]
         found += [(before.index(name) + len(behind) - behind.index(name), name, one, other) for name in set(before).intersection(behind)
-                  if any(shown.has_seen(delete) for shown in evidence.operations for delete in evidence.recording.deletes.get(name, []))]
+                  if is_deleted(evidence, name)]
     return [Cause("settled", SETTLED.format(first=one.element, then=other.element, middle=middle, op_first=f"{one.name}, line {one.line}",
                                             op_then=f"{other.name}, line {other.line}"))
             for _, middle, one, other in sorted(found, key=lambda each: each[:2])[:1]]
