@@ -14,3 +14,6 @@ mod spot;
 mod spots;
 
 pub use list_rule::ListRule;
+
+#[cfg(test)]
+mod tests;
