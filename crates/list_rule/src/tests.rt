@@ -157,7 +157,7 @@ fn depths_of(alloc: Global, code: u32, count: u32) -> Result<Vec<u32>, Memory>
 {
     let mut depths = Vec::new(alloc);
     let mut rest = code;
-    for _ in 0..5u32 {
+    for _x in 0..5u32 {
         depths.push((rest % 4).min(count))?;
         rest /= 4;
     }
@@ -196,6 +196,26 @@ fn are_as_defined(
     Ok(true)
 }
 
+/// The same of rows of up to three layers.
+fn are_all_as_defined(
+    alloc: Global,
+    rule: &mut ListRule,
+    lists: &Rows<u32>,
+    read: &[&[u32]],
+) -> Result<bool, Memory>
+    requires cut { IsCut lists.now }
+    requires within { All (λ list. All (λ x. x < 5) list) (rows_of lists.now) }
+    requires rule { IsRuleOf 5 (rows_of lists.now) rule.old }
+    ensures { IsRuleOf 5 (rows_of lists.now) rule.new }
+{
+    for count in 0..4u32 {
+        if !are_as_defined(alloc, rule, lists, read, count)? {
+            return Ok(false);
+        }
+    }
+    Ok(true)
+}
+
 #[test]
 fn rows_by_the_definition(rt: HostRuntime) -> Result<(), Fail> {
     for read in LISTS {
@@ -203,13 +223,11 @@ fn rows_by_the_definition(rt: HostRuntime) -> Result<(), Fail> {
         let Some(mut rule) = rule_of(rt.alloc(), &lists)? else {
             panic!(rt; "the lists are small");
         };
-        for count in 0..4u32 {
-            let same = match are_as_defined(rt.alloc(), &mut rule, &lists, read, count) {
-                Ok(same) => same,
-                Err(Memory) => are_as_defined(rt.alloc(), &mut rule, &lists, read, count)?,
-            };
-            assert!(rt; same, "of {} lists to {count}", read.len());
-        }
+        let same = match are_all_as_defined(rt.alloc(), &mut rule, &lists, read) {
+            Ok(same) => same,
+            Err(Memory) => are_all_as_defined(rt.alloc(), &mut rule, &lists, read)?,
+        };
+        assert!(rt; same, "of {} lists", read.len());
     }
     Ok(())
 }

@@ -1,5 +1,5 @@
 -- The depths and the noted numbers are handed on as slices.
-use Rattle.std.proofs.Common.{◌≡◌, ℕ, List, sym, subst}
+use Rattle.std.proofs.Common.{ℕ, List, sym, subst}
 use Rattle.std.specs.Prelude.{◌↔◌, IsTrue, slice_index_or}
 use Rattle.bit_tables.specs.Rule.{HaveDepths, MeetsRule}
 use Rattle.cert_check.specs.Numbering.{lists_of}
