@@ -69,9 +69,7 @@ fn first_of(version: Version, source: u32) -> u32
 
 /// Whether the row of the element with this number meets the layer rule of the version. In version two it
 /// does not where it has an element that is numbered below, and nothing is asked of these elements. It costs
-/// a step for each word of the row, and `n / 64` for the row, for each name that is not in the last layer and
-/// for each layer behind one that has names, n being the number of elements; where `k - 1` is more than n,
-/// about `n * log n` steps besides, to sort the depths.
+/// a step for each word of the row, and what `Ways::are_deep` says.
 ///
 /// Before and after a row that meets the rule no depth is noted.
 fn meets_rule(
@@ -167,12 +165,9 @@ fn first_source(rows: &[u8]) -> Option<Name>
 /// The first thing that is wrong with the rows of a certificate for `k` of 3 and more: one row after the
 /// other, in order of numbers, and then a row too many. The rows are given by their lines.
 ///
-/// It makes a table of which elements are shown after which, `n * n / 8` bytes for n elements, of the
-/// responses that cover all, once a row is found whose source and words are right. Each of these costs
-/// `n / 64` steps, and each of its places a step, and one for each new element behind it, up to 64; where
-/// there are more, or its own is new, `n / 64` steps. New is an element that the one before has not, or in
-/// another order. The depths of one row after the other are noted in the same memory, in n steps for all
-/// rows, and then for each row as `meets_rule` says.
+/// Rows are judged along the lists, or by a table, as `Ways` says: either is made once a row is found whose
+/// source and words are right. The depths of one row after the other are noted in the same memory, in n steps
+/// for all rows, and then for each row as `meets_rule` says.
 pub fn rows_fault(
     alloc: Global,
     numbered: &Numbered,

@@ -14,10 +14,11 @@ use events::Memory;
 use list_rule::ListRule;
 use std::alloc::Global;
 
-/// Which elements are shown after which, in the responses that cover all. Each is noted beside the one
-/// before, of which it mostly has the elements in the same order: so it costs `n / 64` steps for n elements,
-/// a step for each of its places, and what is new in it. In the end it notes for each element whether the row
-/// of the one before has all of its row, in up to `n / 64` steps and a byte each.
+/// Which elements are shown after which, in the responses that cover all. Each of these costs `n / 64` steps
+/// for n elements, and each of its places a step, and one for each new element behind it, up to 64; where
+/// there are more, or its own is new, `n / 64` steps. New is an element that the one before has not, or in
+/// another order. In the end it notes for each element whether the row of the one before has all of its row, in
+/// up to `n / 64` steps and a byte each.
 fn after_table(alloc: Global, numbered: &Numbered) -> Result<AfterTable, Memory>
     requires cut { IsCut numbered.now.places }
     requires within { AreWithin (length numbered.now.names.items) numbered.now }
@@ -115,6 +116,10 @@ fn unions_of(depths: &RowDepths, most: u32) -> u64 {
 
 /// The lists or the table by which rows are judged: neither before the first row. No clause says which it is,
 /// since the answer is the same.
+///
+/// A table of which elements are shown after which takes `n * n / 8` bytes for n elements, and is made as
+/// `after_table` says. The lists take 8 bytes for each place of those that are kept, and some for each element
+/// and each list; of neighbours where one is a part of the other, only that other is kept.
 #[derive(Drop)]
 pub struct Ways {
     pub lists: Option<ListRule>,
@@ -135,8 +140,9 @@ impl Ways {
         }
     }
 
-    /// Lets the lists go where rows along them have cost more than a table and they along it would have. Where
-    /// no way is chosen, makes the lists, unless a table has no more words than these have places.
+    /// Lets the lists go where rows along them have cost more than a table and they along it would have: the
+    /// table is made then, and serves all rows behind. Where no way is chosen, makes the lists, unless a table
+    /// has no more words of 64 bits than these have places.
     fn choose(&mut self, alloc: Global, numbered: &Numbered) -> Result<(), Memory>
         requires cut { IsCut numbered.now.places }
         requires within { AreWithin (length numbered.now.names.items) numbered.now }
@@ -158,7 +164,14 @@ impl Ways {
         Ok(())
     }
 
-    /// Whether a row's depths meet the layer rule for its source.
+    /// Whether a row's depths meet the layer rule for its source, as `are_deep` asks it of a table.
+    ///
+    /// Along lists it takes a step for each place behind the noted elements that are not in the last layer,
+    /// each place of a list once, one for each spot of the noted elements and of the source, and no memory. By
+    /// a table it takes `n / 64` steps for the row, for each noted element that is not in the last layer and
+    /// for each layer behind one that has elements, n being the number of elements; where `most` is more than
+    /// n, about `n * log n` steps besides, to sort the depths. So rows cost at most about twice what they do
+    /// in the cheaper of the two ways, beside the making of both.
     pub fn are_deep(
         &mut self,
         alloc: Global,
