@@ -1,5 +1,5 @@
 -- The elements with their numbers, and responses that cover all as lists of them.
-use Rattle.std.specs.Prelude.{◌≡◌, ℕ, ◌<◌, ◌==◌, ◌^◌, Option, List, [], All, length, map, slice_index_or}
+use Rattle.std.specs.Prelude.{◌≡◌, ℕ, ◌<◌, ◌==◌, ◌^◌, Option, List, [], All, IfSome, length, map, slice_index_or}
 use Rattle.std.specs.Cmp.Lexicographic.{pointwise}
 use Rattle.indexmap.specs.IndexMap.{get}
 use Rattle.events.specs.Names.{NameBytes}
@@ -10,10 +10,12 @@ use Rattle.specification.specs.Elements.{elements, number_in, numbers_in}
 use Rattle.specification.specs.Members.{Once}
 use Rattle.specification.specs.Versions.{Version, one, two}
 use Rattle.bit_tables.specs.Lists.{IsTableOf}
+use Rattle.list_rule.specs.Judging.{IsRuleOf}
 use Rattle.element_numbers.specs.Cuts.{rows_of, IsCut}
 use Rattle.element_numbers.specs.Covering.{AreCovering}
 use Rattle.cert_check.specs.Values.{IsGradualFrom, IsDeepFrom}
 use Rattle.cert_check.specs.declared.numbered.Numbered.{Numbered}
+use Rattle.cert_check.specs.declared.ways.Ways.{Ways}
 
 -- the number of a name
 abbrev pub number_of : Numbered → NameBytes → Option ℕ
@@ -50,6 +52,11 @@ AreWithin bound t = All (λ list. All (λ x. x < bound) list) (lists_of t)
 -- a table of which elements stand after which in the lists
 abbrev pub IsTableFor : Numbered → List (List ℕ) → Type 0
 IsTableFor t rows = IsTableOf (length t.names.items) (lists_of t) rows
+
+-- the lists and the table by which rows are judged, as far as there are any
+pub record AreWays (t : Numbered) (ways : Ways) : Type 0 where
+  pub lists : IfSome ways.lists (IsRuleOf (length t.names.items) (lists_of t))
+  pub table : IfSome ways.table (IsTableFor t)
 
 -- the elements of a sound recording, and the places of operations that cover all
 pub record IsOf (h : History) (t : Numbered) : Type 0 where

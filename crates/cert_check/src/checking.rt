@@ -56,9 +56,9 @@ pub fn check<H: Threads + Sync>(
 ///
 /// It costs what `check` does but for the reading of the trace. Beside the recording and the certificate's
 /// text it keeps what is visible in the recording, the numbers of the elements, those responses that cover
-/// all as numbers, for the rows the table, the depths and 20 bytes for each element by which names are found
-/// again, and of one row at a time the numbers that have a depth, the layers (at most `2 * n + 2` lists) and
-/// the two sets of `are_deep`.
+/// all as numbers, for the rows the lists or the table of `Ways`, the depths and 20 bytes for each element by
+/// which names are found again, and of one row at a time the numbers that have a depth, and by the table the
+/// layers (at most `2 * n + 2` lists) and the two sets of `are_deep`.
 pub fn check_recording<H: Threads + Sync>(
     rt: &H,
     alloc: Global,

@@ -27,6 +27,7 @@ mod rows;
 mod shown;
 mod steps;
 mod values;
+mod ways;
 
 pub use answer::{Answer, Kind, Reason};
 pub use checking::{check, check_recording};

@@ -8,12 +8,10 @@ ghost use Rattle.specification.specs.LayerRule.{Row};
 ghost use Rattle.specification.specs.Lines.{text_of};
 ghost use Rattle.specification.specs.CertificateText.{IsRow, row_line};
 ghost use Rattle.specification.specs.ValidCertificate.{HasSource};
-ghost use Rattle.bit_tables.specs.Lists.{IsTableOf};
-ghost use Rattle.bit_tables.specs.Rule.{HaveDepths, MeetsRule};
 ghost use Rattle.format_words.specs.Words.{words_behind};
 ghost use Rattle.certificate_text.specs.CertificateOf.{version_in};
 ghost use Rattle.element_numbers.specs.Cuts.{IsCut};
-ghost use Rattle.cert_check.specs.Numbering.{IsNumbering, IsTableFor, AreWithin, first_of, lists_of};
+ghost use Rattle.cert_check.specs.Numbering.{AreWays, AreWithin, IsNumbering, first_of};
 ghost use Rattle.cert_check.specs.Judged.{TellsLayerRule, TellsRow, TellsRows};
 ghost use Rattle.cert_check.specs.RowDepths.{IsUnset};
 ghost use Rattle.cert_check.specs.RowWords.{SaysRow};
@@ -22,7 +20,7 @@ use super::answer::Reason;
 use super::numbered::Numbered;
 use super::row_depths::RowDepths;
 use super::values::are_from;
-use bit_tables::{AfterTable, Noter, are_deep};
+use super::ways::Ways;
 use certificate_text::Version;
 use events::{Memory, Name};
 use format_words::{first_word, name_of, next_word, split_line};
@@ -71,15 +69,13 @@ fn first_of(version: Version, source: u32) -> u32
 
 /// Whether the row of the element with this number meets the layer rule of the version. In version two it
 /// does not where it has an element that is numbered below, and nothing is asked of these elements. It costs
-/// a step for each word of the row, and `n / 64` for the row, for each name that is not in the last layer and
-/// for each layer behind one that has names, n being the number of elements; where `k - 1` is more than n,
-/// about `n * log n` steps besides, to sort the depths.
+/// a step for each word of the row, and what `Ways::are_deep` says.
 ///
 /// Before and after a row that meets the rule no depth is noted.
 fn meets_rule(
     alloc: Global,
     numbered: &Numbered,
-    table: &mut Option<AfterTable>,
+    ways: &mut Ways,
     version: Version,
     k: u32,
     source: u32,
@@ -89,7 +85,7 @@ fn meets_rule(
     requires numbering { IsNumbering numbered.now }
     requires cut { IsCut numbered.now.places }
     requires within { AreWithin (length numbered.now.names.items) numbered.now }
-    requires table { IfSome table.old (IsTableFor numbered.now) }
+    requires ways { AreWays numbered.now ways.old }
     requires long { 2 ≤ k }
     requires element { source < length numbered.now.names.items }
     requires fresh { IsUnset (length numbered.now.names.items) (k - 1) depths.old }
@@ -97,7 +93,7 @@ fn meets_rule(
         → TellsLayerRule (version_in version) numbered.now k source row meets) }
     ensures fresh { IfOk result (λ meets. IsTrue meets
         → IsUnset (length numbered.now.names.items) (k - 1) depths.new) }
-    ensures table { IfOk result (λ _. IfSome table.new (IsTableFor numbered.now)) }
+    ensures ways { IfOk result (λ _. AreWays numbered.now ways.new) }
 {
     let first = first_of(version, source);
     let is_noted = numbered.note_row(depths, k - 1, words)?;
@@ -107,7 +103,7 @@ fn meets_rule(
     if !are_from(&depths.noted, first) {
         return Ok(false);
     }
-    let deep = are_deep_by_table(alloc, numbered, table, depths, k - 1, first, source)?;
+    let deep = ways.are_deep(alloc, numbered, depths, k - 1, first, source)?;
     depths.clear(k - 1);
     Ok(deep)
 }
@@ -116,7 +112,7 @@ fn meets_rule(
 fn row_fault(
     alloc: Global,
     numbered: &Numbered,
-    table: &mut Option<AfterTable>,
+    ways: &mut Ways,
     version: Version,
     k: u32,
     line: &[u8],
@@ -126,7 +122,7 @@ fn row_fault(
     requires numbering { IsNumbering numbered.now }
     requires cut { IsCut numbered.now.places }
     requires within { AreWithin (length numbered.now.names.items) numbered.now }
-    requires table { IfSome table.old (IsTableFor numbered.now) }
+    requires ways { AreWays numbered.now ways.old }
     requires long { 2 ≤ k }
     requires element { i < length numbered.now.names.items }
     requires fresh { IsUnset (length numbered.now.names.items) (k - 1) depths.old }
@@ -135,13 +131,13 @@ fn row_fault(
         → TellsRow (version_in version) numbered.now k rows i found) }
     ensures fresh { IfOk result (λ found. IfNone found
         (IsUnset (length numbered.now.names.items) (k - 1) depths.new)) }
-    ensures table { IfOk result (λ _. IfSome table.new (IsTableFor numbered.now)) }
+    ensures ways { IfOk result (λ _. AreWays numbered.now ways.new) }
 {
     let source = numbered.names[i as usize];
     let words = words_of_row(line);
     if !has_source(words, &source) {
         Ok(Some(Reason::MissingLayer { source }))
-    } else if meets_rule(alloc, numbered, table, version, k, i, words, depths)? {
+    } else if meets_rule(alloc, numbered, ways, version, k, i, words, depths)? {
         Ok(None)
     } else {
         Ok(Some(Reason::ShortLayer { source }))
@@ -166,91 +162,12 @@ fn first_source(rows: &[u8]) -> Option<Name>
     }
 }
 
-/// Which elements are shown after which, in the responses that cover all. Each is noted beside the one
-/// before, of which it mostly has the elements in the same order: so it costs `n / 64` steps for n elements,
-/// a step for each of its places, and what is new in it. In the end it notes for each element whether the row
-/// of the one before has all of its row, in up to `n / 64` steps and a byte each.
-fn after_table(alloc: Global, numbered: &Numbered) -> Result<AfterTable, Memory>
-    requires cut { IsCut numbered.now.places }
-    requires within { AreWithin (length numbered.now.names.items) numbered.now }
-    ensures { IfOk result (λ t. IsTableOf (length numbered.now.names.items) (lists_of numbered.now) t) }
-{
-    let n = numbered.names.len();
-    let mut table = AfterTable::new(alloc, n)?;
-    let mut noter = Noter::new(alloc, n)?;
-    let mut known = [].as_slice();
-    for i in 0..numbered.places.ends.len() {
-        let row = numbered.places.row(i);
-        table.add(&mut noter, known, row)?;
-        known = row;
-    }
-    table.note_included(alloc)?;
-    Ok(table)
-}
-
-/// Makes the table of which elements are shown after which, unless that was done.
-fn make_table(
-    alloc: Global,
-    numbered: &Numbered,
-    table: &mut Option<AfterTable>,
-) -> Result<(), Memory>
-    requires cut { IsCut numbered.now.places }
-    requires within { AreWithin (length numbered.now.names.items) numbered.now }
-    requires table { IfSome table.old (IsTableFor numbered.now) }
-    ensures { OnOk result (MatchOption table.new ⊥ (IsTableFor numbered.now)) }
-{
-    if table.is_none() {
-        let made = after_table(alloc, numbered)?;
-        *table = Some(made);
-    }
-    Ok(())
-}
-
-/// What `are_deep` answers by the table, which is made where it was not.
-fn are_deep_by_table(
-    alloc: Global,
-    numbered: &Numbered,
-    table: &mut Option<AfterTable>,
-    depths: &RowDepths,
-    most: u32,
-    first: u32,
-    source: u32,
-) -> Result<bool, Memory>
-    requires cut { IsCut numbered.now.places }
-    requires within { AreWithin (length numbered.now.names.items) numbered.now }
-    requires table { IfSome table.old (IsTableFor numbered.now) }
-    requires few { length numbered.now.names.items < 2 ^ 32 }
-    requires size { length depths.now.depths.items ≡ length numbered.now.names.items }
-    requires first { first ≤ length numbered.now.names.items }
-    requires noted { HaveDepths depths.now.depths.items most depths.now.noted.items }
-    requires most { All (λ d. d ≤ most) depths.now.depths.items }
-    ensures table { IfOk result (λ _. IfSome table.new (IsTableFor numbered.now)) }
-    ensures deep { IfOk result (λ deep. IsTrue deep ↔ MeetsRule (lists_of numbered.now) first source most
-        (λ x. slice_index_or depths.now.depths.items x most)) }
-{
-    make_table(alloc, numbered, table)?;
-    let Some(made) = table else { unreachable!() };
-    let deep = are_deep(
-        alloc,
-        made,
-        &depths.depths,
-        &depths.noted,
-        most,
-        first,
-        source,
-    )?;
-    Ok(deep)
-}
-
 /// The first thing that is wrong with the rows of a certificate for `k` of 3 and more: one row after the
 /// other, in order of numbers, and then a row too many. The rows are given by their lines.
 ///
-/// It makes a table of which elements are shown after which, `n * n / 8` bytes for n elements, of the
-/// responses that cover all, once a row is found whose source and words are right. Each of these costs
-/// `n / 64` steps, and each of its places a step, and one for each new element behind it, up to 64; where
-/// there are more, or its own is new, `n / 64` steps. New is an element that the one before has not, or in
-/// another order. The depths of one row after the other are noted in the same memory, in n steps for all
-/// rows, and then for each row as `meets_rule` says.
+/// Rows are judged along the lists, or by a table, as `Ways` says: either is made once a row is found whose
+/// source and words are right. The depths of one row after the other are noted in the same memory, in n steps
+/// for all rows, and then for each row as `meets_rule` says.
 pub fn rows_fault(
     alloc: Global,
     numbered: &Numbered,
@@ -266,16 +183,16 @@ pub fn rows_fault(
         → rows.now ≡ text_of (map row_line layers)
         → TellsRows (version_in version) numbered.now k layers found) }
 {
-    let mut table = None;
+    let mut ways = Ways::new();
     let mut depths = RowDepths::new(alloc, numbered.names.len(), k - 1)?;
-    first_row_fault(alloc, numbered, &mut table, version, k, rows, &mut depths)
+    first_row_fault(alloc, numbered, &mut ways, version, k, rows, &mut depths)
 }
 
-/// The first thing that is wrong with the rows, by a table of which elements are shown after which.
+/// The first thing that is wrong with the rows, in the ways that are chosen.
 fn first_row_fault(
     alloc: Global,
     numbered: &Numbered,
-    table: &mut Option<AfterTable>,
+    ways: &mut Ways,
     version: Version,
     k: u32,
     rows: &[u8],
@@ -284,7 +201,7 @@ fn first_row_fault(
     requires numbering { IsNumbering numbered.now }
     requires cut { IsCut numbered.now.places }
     requires within { AreWithin (length numbered.now.names.items) numbered.now }
-    requires table { IfSome table.old (IsTableFor numbered.now) }
+    requires ways { AreWays numbered.now ways.old }
     requires long { 2 ≤ k }
     requires fresh { IsUnset (length numbered.now.names.items) (k - 1) depths.old }
     ensures { IfOk result (λ found. (layers : List Row) → All (IsRow k) layers
@@ -298,7 +215,7 @@ fn first_row_fault(
             let source = numbered.names[i as usize];
             return Ok(Some(Reason::MissingLayer { source }));
         };
-        if let Some(fault) = row_fault(alloc, numbered, table, version, k, line, i, depths)? {
+        if let Some(fault) = row_fault(alloc, numbered, ways, version, k, line, i, depths)? {
             return Ok(Some(fault));
         }
         rest = behind;

@@ -315,3 +315,63 @@ fn reasons_against_certificates(rt: HostRuntime) {
         assert!(rt; is_invalid(&rt, rt.alloc(), trace, cert, why), "at {cert}");
     }
 }
+
+/// The entries of `THREE_WAY`.
+const RING: &str =
+    "0 ins x 0 : x\n1 recv 0 1\n2 recv 0 1\n1 ins a 0 : a x\n2 ins b 1 : x b\n0 del x :\n0 recv 1 1\n0 recv 2 1\n0 read : b a\n";
+
+/// How many elements stand alone, each deleted before the next is inserted: with those of the ring there are
+/// 64, so that a table of bits has more words than the responses have places.
+const ALONE: u32 = 61;
+
+/// A trace with the ring and the elements that stand alone, and a certificate with these rows of the ring's.
+fn with_alone(alloc: Global, rows: &str) -> Result<(String, String), Memory> {
+    let mut trace = headed(alloc, "trace 1\nreplicas 4\n", RING)?;
+    let mut cert = headed(
+        alloc,
+        "cert 2\nrefused 3\nstep x b 2.1\nstep b a 0.3\nstep a x 1.1\n",
+        rows,
+    )?;
+    for i in 0..ALONE {
+        let entries = format!(in alloc; "3 ins l{i} 0 : l{i}\n3 del l{i} :\n")?;
+        trace.push_str(entries.as_str())?;
+        let row = format!(in alloc; "layers l{i} /\n")?;
+        cert.push_str(row.as_str())?;
+    }
+    Ok((trace, cert))
+}
+
+/// What the checker says of these rows.
+fn answer_of_rows<H: Threads + Sync>(rt: &H, alloc: Global, rows: &str) -> Result<Answer, Memory> {
+    let (trace, cert) = match with_alone(alloc, rows) {
+        Ok(texts) => texts,
+        Err(Memory) => with_alone(alloc, rows)?,
+    };
+    answer(rt, alloc, trace.as_str(), cert.as_str())
+}
+
+/// Rows of the ring, and the source of the first that is short, if any is.
+static ALONG_LISTS: [(&str, Option<&str>); 7] = [
+    ("layers x / b\nlayers a /\nlayers b /\n", None),
+    // A name that is shown beside no other may stand in the last layer.
+    ("layers x / b l0\nlayers a / l60\nlayers b /\n", None),
+    // What follows the source is missing, or stands before it.
+    ("layers x /\nlayers a /\nlayers b /\n", Some("x")),
+    ("layers x / a\nlayers a /\nlayers b /\n", Some("x")),
+    ("layers x / b a\nlayers a /\nlayers b /\n", Some("x")),
+    // A name below the source, and one that stands before it.
+    ("layers x / b\nlayers a /\nlayers b / a\n", Some("b")),
+    ("layers x / b\nlayers a / b\nlayers b /\n", Some("a")),
+];
+
+#[test]
+fn rows_along_lists(rt: HostRuntime) {
+    for (rows, short) in ALONG_LISTS.iter().copied() {
+        let expected = match short {
+            None => Some(Answer::Yes(Kind::Refused)),
+            Some(source) => reason(Why::ShortLayer { source }).map(Answer::No),
+        };
+        let said = answer_of_rows(&rt, rt.alloc(), rows);
+        assert!(rt; said.is_ok() && said.ok() == expected, "at {rows}");
+    }
+}

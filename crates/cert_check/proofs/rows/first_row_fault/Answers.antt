@@ -40,7 +40,7 @@ returns-in-Some-2 c = λ layers each text h of.
 pub loop-i-preserved : goal.loop-i-preserved
 loop-i-preserved c = record {
   fresh = rw c.in_default-2.is at c.in_ok-fault.ensures.fresh;
-  made = c.in_ok-fault.ensures.table;
+  ways = c.in_ok-fault.ensures.ways;
   judged = λ layers each text.
       let so = c.loop-i.invariant.judged layers each text in
       let row =

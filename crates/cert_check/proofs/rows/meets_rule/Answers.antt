@@ -72,16 +72,16 @@ returns-then-not-are_from-clause-meets c = λ row says h a of at. (
       (subst (λ (l : List ℕ). All (λ n. first ≤ n) l) (sym c.deref.ensures.value) all))),
 )
 
-pub are_deep_by_table-requires-clause-size : goal.are_deep_by_table-requires-clause-size
-are_deep_by_table-requires-clause-size c =
-    (row_noted (goal.at.are_deep_by_table-requires-clause-size c).Else-not-is_noted).size
+pub are_deep-requires-clause-size : goal.are_deep-requires-clause-size
+are_deep-requires-clause-size c =
+    (row_noted (goal.at.are_deep-requires-clause-size c).Else-not-is_noted).size
 
-pub are_deep_by_table-requires-clause-noted : goal.are_deep_by_table-requires-clause-noted
-are_deep_by_table-requires-clause-noted c = c.in_ok-is_noted.ensures.numbers c.if-not-is_noted.false
+pub are_deep-requires-clause-noted : goal.are_deep-requires-clause-noted
+are_deep-requires-clause-noted c = c.in_ok-is_noted.ensures.numbers c.if-not-is_noted.false
 
-pub are_deep_by_table-requires-clause-most : goal.are_deep_by_table-requires-clause-most
-are_deep_by_table-requires-clause-most c =
-    depths-most _ _ _ _ (row_noted (goal.at.are_deep_by_table-requires-clause-most c).Else-not-is_noted)
+pub are_deep-requires-clause-most : goal.are_deep-requires-clause-most
+are_deep-requires-clause-most c =
+    depths-most _ _ _ _ (row_noted (goal.at.are_deep-requires-clause-most c).Else-not-is_noted)
 
 pub clear-requires-clause-noted : goal.clear-requires-clause-noted
 clear-requires-clause-noted c = c.in_ok-is_noted.ensures.numbers c.if-not-is_noted.false

@@ -4,7 +4,7 @@ use Rattle.std.specs.Prelude.{◌↔◌, All, IsTrue, slice_index_or}
 use Rattle.bit_tables.specs.Lists.{IsTableOf}
 use Rattle.bit_tables.specs.Rule.{HaveDepths, MeetsRule}
 use Rattle.cert_check.specs.Numbering.{lists_of}
-use Rattle.cert_check.proofs.rows.are_deep_by_table.Goals as goal
+use Rattle.cert_check.proofs.ways.are_deep_by_table.Goals as goal
 
 pub are_deep-requires-clause-noted : goal.are_deep-requires-clause-noted
 are_deep-requires-clause-noted c =

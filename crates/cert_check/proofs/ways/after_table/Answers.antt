@@ -6,7 +6,7 @@ use Rattle.std.proofs.lemmas.List.{take_all}
 use Rattle.bit_tables.specs.Lists.{HaveWidth, IsTableOf}
 use Rattle.element_numbers.proofs.Cuts.{length-cut}
 use Rattle.cert_check.specs.Numbering.{lists_of}
-use Rattle.cert_check.proofs.rows.after_table.Goals as goal
+use Rattle.cert_check.proofs.ways.after_table.Goals as goal
 
 pub loop-i-preserved : goal.loop-i-preserved
 loop-i-preserved c =

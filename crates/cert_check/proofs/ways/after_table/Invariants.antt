@@ -1,7 +1,7 @@
 use Rattle.std.proofs.Common.{◌≡◌, length, take}
 use Rattle.bit_tables.specs.Lists.{HasList, IsTableOf}
 use Rattle.cert_check.specs.Numbering.{lists_of}
-use Rattle.cert_check.proofs.rows.after_table.Given as goal
+use Rattle.cert_check.proofs.ways.after_table.Given as goal
 
 abbrev pub invariant-loop-i : goal.invariant-loop-i
 invariant-loop-i l = record {
