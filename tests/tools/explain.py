@@ -2054,7 +2054,7 @@ def small(tally: Tally, program: str, folder: str) -> None:
             if is_lost:
                 stop_lines = [int(is_lost[1])]
             elif alone:
-                stop_lines = [int(alone[1]), *(line for line in stop_lines if line != int(alone[1]))]
+                stop_lines = [int(alone[1]), *sorted({line for line, *_ in stops} - {int(alone[1])}, reverse=True)]
             stopped = paragraph(said, "In a debugger").partition(" In Python,")[0]
             tally.check("refused: where to stop a debugger", [int(line) for line in re.findall(r"\bline (\d+)", stopped)] == stop_lines,
                         f"{whole}{stops}\n{got}")
