@@ -84,9 +84,8 @@ WORDS = [
      "a: inserted by 0.1 (line 3)|b: inserted by 1.1 (line 4)|"
      "b arrived at replica 0 in line 5, a at replica 1 in line 6|"
      "Look at the order of concurrent inserts: a and b were inserted at the front without knowing of each other, and were shown in two different orders. "
-     "Use a rule that gives the same order everywhere (such as the replicas' numbers), and not each replica's order of arrival or a number it sets then. Short cuts must keep that rule.|"
-     "If the list is sorted by position identifiers, look at those of a and b: are the two equal, does one differ between replicas, or are numbers "
-     "compared as text?" + stop(6, "replica 1 applies 0.1", 5)),
+     "Use a rule that gives the same order everywhere (such as the replicas' numbers), also in short cuts, as for appending; not the order in which each replica received them.|"
+     "If the list is sorted by position identifiers, look at those of a and b: are the two equal, does one differ between replicas, are numbers compared as text, or was one not made between its neighbours'?" + stop(6, "replica 1 applies 0.1", 5)),
     ("a replica that turns two elements round when it deletes another", 2, "0 ins a 0 : a|1 ins b 0 : b|1 recv 0 1|1 read : a b|1 ins c 2 : a b c|1 del c : b a",
      "[b] before [a]: line 8, 1.4: replica 1 deleted c, answered [b] [a]|Where to look|"
      "Replica 1 itself changed the order of elements that it had shown: a before b in 1.3 (line 7), b before a in 1.4 (line 8). Between the two it "
@@ -140,8 +139,7 @@ WORDS = [
      "x arrived at replica 1 in line 4, x at replica 2 in line 5, a at replica 0 in line 9, b at replica 0 in line 10|"
      "Look at positions beside deleted elements: any two of 2.1, 0.3 and 1.1 fit together, all three don't; perhaps an insert lost its place "
      "because its neighbour was deleted meanwhile. Look first at where replica 0 placed b in line 10, beside x, which had been deleted there.|"
-     "If the list is sorted by position identifiers, look at those of x, b and a: are two of them equal, does one differ between replicas, or are numbers "
-     "compared as text?|"
+     "If the list is sorted by position identifiers, look at those of x, b and a: are two of them equal, does one differ between replicas, are numbers compared as text, or was one not made between its neighbours'?|"
      "An editor whose server orders all changes, as Jupiter's does, promises only the weak list specification, which holds here. If yours is such a one, nothing is wrong here: ask for weak alone, in the tools by --weak."
      + stop(10, "replica 0 applies 2.1", 9, 5, 4, together=9)),
     ("an insert that arrives beside a deleted element", 2, BESIDE_DELETED,
@@ -161,14 +159,14 @@ WORDS = [
      "[b] was put directly behind [a]. The author of [c] knew neither, and 1.2 (line 7) shows [c] between the two. If inserts find their place by a "
      "neighbour, look at how [c] found its place there: if the search goes past [a], it must also go past all that was put behind [a], also in the next block of a list that is kept in blocks.|"
      "Look at the order of concurrent inserts: b and c were inserted without knowing of each other, and were shown in two different orders. Use a rule that "
-     "gives the same order everywhere (such as the replicas' numbers), and not each replica's order of arrival or a number it sets then. Short cuts must keep that rule."),
+     "gives the same order everywhere (such as the replicas' numbers), also in short cuts, as for appending; not the order in which each replica received them."),
     ("an insert behind what the other author did not know, which is deleted", 2, "0 ins a 0 : a|0 ins b 1 : a b|0 del a : b|1 ins c 0 : c|1 recv 0 3|"
      "1 read : c b|0 recv 1 1|0 read : b c", "Where to look|"
      "[b] was put directly behind [a], which the author of [c] did not know. If inserts find their place by a neighbour, look at how [c] found its "
      "place: if the search goes past [a], it must also go past all that was put behind [a], also in the next block of a list that is kept in blocks. Look also at inserts beside "
      "deleted elements: where [a] was thrown away as deleted, nothing says where [b] belongs.|"
      "Look at the order of concurrent inserts: b and c were inserted without knowing of each other, and were shown in two different orders. Use a rule that "
-     "gives the same order everywhere (such as the replicas' numbers), and not each replica's order of arrival or a number it sets then. Short cuts must keep that rule."),
+     "gives the same order everywhere (such as the replicas' numbers), also in short cuts, as for appending; not the order in which each replica received them."),
     ("an insert between two that are deleted by others", 3, "0 ins a 0 : a|0 ins b 1 : a b|1 recv 0 2|2 recv 0 2|2 ins c 1 : a c b|1 del a : b|"
      "0 del b : a|1 recv 0 3|1 read :|1 ins d 0 : d|1 recv 2 1|1 read : c d|2 recv 1 3|2 read : d c",
      "[d] before [c]: line 16 of the trace, 2.2: replica 2 read the list, answered [d] [c]|"
@@ -214,7 +212,7 @@ WORDS = [
      "Where to look|"
      "Look at positions beside deleted elements: any two of 2.1, 0.3 and 1.1 fit together, all three don't; perhaps an insert lost its place "
      "because its neighbour was deleted meanwhile. Look first at where replica 0 placed b in line 10, beside x, which had been deleted there.|"
-     "For the verdict on the whole trace (told below): look at where a replica places an incoming insert beside a deleted element: a was put before x (1.1, line 6), and b behind it (2.1, line 7), so x settles their order, also where it is deleted; yet they were shown in two different orders. No rule for concurrent inserts at one place may decide here.|For the verdict on the whole trace (told below): if the list is sorted by position identifiers, look at those of a and b: are the two equal, does one differ between replicas, or are numbers compared as text?|For the verdict on the whole trace (told below): if the editor sends positions, the position of b was perhaps not adjusted for the delete of x by 0.2 (line 8), which replica 1 "
+     "For the verdict on the whole trace (told below): look at where a replica places an incoming insert beside a deleted element: [a] was put before [x] (1.1, line 6), and [b] behind it (2.1, line 7), so [x] settles their order, also where it is deleted; yet they were shown in two different orders. No rule for concurrent inserts at one place may decide here.|For the verdict on the whole trace (told below): if the list is sorted by position identifiers, look at those of a and b: are the two equal, does one differ between replicas, are numbers compared as text, or was one not made between its neighbours'?|For the verdict on the whole trace (told below): if the editor sends positions, the position of b was perhaps not adjusted for the delete of x by 0.2 (line 8), which replica 1 "
      "knew and the author of b did not; or the position of the delete was not adjusted for an insert that the author of the delete had not seen.|"
      "" + stop(10, "replica 0 applies 2.1", 9, 5, 4, together=9) + "||What the whole trace shows: a circle, which no order allows|"
      "[a] before [b]: line 14, 1.2: replica 1 read the list, answered [a] [b]|"
@@ -394,7 +392,7 @@ WORDS = [
      "Look first at whether 0.2 (line 4) was lost on its way to replica 1, or overtaken: no receipt there names it, though all other changes of "
      "replica 0 have one. In an editor that sends positions, later changes then land in the wrong place.|"
      "Look at the order of concurrent inserts: c and y were inserted directly behind a without knowing of each other, and were shown in two different orders. Use a "
-     "rule that gives the same order everywhere (such as the replicas' numbers), and not each replica's order of arrival or a number it sets then. Short cuts must keep that rule."
+     "rule that gives the same order everywhere (such as the replicas' numbers), also in short cuts, as for appending; not the order in which each replica received them."
      + stop(4, "replica 0 inserts b, and follow 0.2 to replica 1")),
     ("a delete that meets an insert and a delete which did not know each other", 2, "0 ins a 0 : a|0 ins b 1 : a b|0 ins c 2 : a b c|1 recv 0 3|"
      "1 read : a b c|0 del a : b c|1 ins d 3 : a b c d|0 recv 1 2|0 read : b c d|1 del c : a b d|0 recv 1 3|0 read : b c",
@@ -432,8 +430,7 @@ WORDS = [
      f"to another element? {GUIDE} says where the calls go." + stop(4, "replica 0 reads the list")),
     ("a deleted element settles the order of two others", 3, "0 ins x 0 : x|1 recv 0 1|2 recv 0 1|1 ins a 0 : a x|2 ins b 1 : x b|0 del x :|1 recv 0 2|1 recv 2 1|1 read : a b|"
      "0 recv 1 1|0 recv 2 1|0 read : b a", "refused 2: two responses can't be right together.||Where to look|"
-     "Look at where a replica places an incoming insert beside a deleted element: a was put before x (1.1, line 6), and b behind it (2.1, line 7), so x settles their order, also where "
-     "it is deleted; yet they were shown in two different orders. No rule for concurrent inserts at one place may decide here.|"),
+     "Look at where a replica places an incoming insert beside a deleted element: [a] was put before [x] (1.1, line 6), and [b] behind it (2.1, line 7), so [x] settles their order, also where it is deleted; yet they were shown in two different orders. No rule for concurrent inserts at one place may decide here.|"),
     ("a replica turns round what it inserted itself", 2, "0 ins x 0 : x|1 recv 0 1|1 ins b 1 : x b|1 ins a 0 : a x b|0 del x :|1 recv 0 2|1 read : b a", "Where to look|"
      "Replica 1 itself changed the order of elements that it had shown: a before b in 1.2 (line 6), b before a in 1.3 (line 9). Between the two it received the delete of x by 0.2 (line 7). "
      "Look at what decides which of b and a comes first: once both are inserted, it must never change, whatever is inserted, deleted or received later.|"
@@ -443,6 +440,9 @@ WORDS = [
     ("a number that does not grow at one replica", 1, "0 ins b 0 : b|0 ins a 0 : b a", "Where to look|"
      "If the editor decides by numbers (a clock, ids) which of two inserts at one place comes first, look at theirs: a stands behind b, which replica 0 had already. The number that a has "
      "must be greater than that of b; perhaps it is not. Usual causes: the clock does not advance with each insert; ids are compared as text, so 10 comes before 9.|"),
+    ("an insert beside a deleted element, at a wrong position", 2, "0 ins a 0 : a|0 ins b 1 : a b|1 recv 0 2|1 read : a b|1 del a : b|1 ins c 0 : b c", "found at: position 1||Where to look|"
+     "b was put behind a (0.2 (line 4)), which is deleted at replica 1 by now: so c belongs beside a deleted element. Look at how an insert finds its place there; in a tree of elements, "
+     "at how the children of a deleted one are shown: all of its left side come before all of its right side.|"),
     ("a wrong response before the one that the program names", 2, "1 ins a 0 : a|1 read :|0 recv 1 1|0 read : a|0 read :|1 read : a",
      "contents 1.2: this response lacks one element that replica 1 should have had by then. This is what went wrong first, within the first 4 lines. The verdict on "
      "the whole trace is `contents 0.2` (told below).||When it went wrong|"

@@ -2003,7 +2003,8 @@ def check_merged_beside(tally: Tally, folder: Path, name: str, besides: list, wa
     tally.check(f"merge.py --output: {name}", (done.returncode, done.stdout, done.stderr) == (0, "", warned) and
                 got == [log_text(MERGED), wanted], (done, got))
     done = subprocess.run([sys.executable, ROOT / "recorders/merge.py", *words], cwd=folder, capture_output=True, text=True)
-    tally.check(f"merge.py: {name}", (done.returncode, done.stdout, done.stderr) == (0, log_text(MERGED), warned), done)
+    status = 2 if any(words in warned for words in ("were saved", "log: ")) else 0  # no file beside standard output tells it of the trace
+    tally.check(f"merge.py: {name}", (done.returncode, done.stdout, done.stderr) == (status, log_text(MERGED), warned), done)
 
 
 def check_merged_elsewhere(tally: Tally, program: str, folder: Path) -> None:

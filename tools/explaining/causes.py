@@ -73,12 +73,14 @@ NUMBERS_OF_INSERTS = (" Often the clock that decides between inserts does not ad
 IDENTIFIERS = ("If the list is sorted by position identifiers, print those of {names} at line {line}. If they do not rise in this order, look at how the "
                "one of {element} was made; if they do, at how identifiers are compared (numbers must not be compared as text).")
 SORTED = ("If the list is sorted by position identifiers, look at those of {names}: are {two} equal, does one differ between "
-          "replicas, or are numbers compared as text?")
+          "replicas, are numbers compared as text, or was one not made between its neighbours'?")
 REORDERED = ("Replica {replica} itself changed the order of elements that it had shown: {one} before {two} in {before}, {two} before {one} in {after}. Between the two "
              "it {did}. Look at what decides which of {two} and {one} comes first: once both are inserted, it must never change, whatever is inserted, deleted "
              "or received later.")
 MAPPING = ("Look at how the position that a user sees is mapped to a place in the editor's own list{deleted}; and at whether the "
            "recorder writes the position that was asked for.")
+BESIDE_GONE = ("{passed} was put {side} {gone} ({insert}), which is deleted at replica {replica} by now: so {element} belongs beside a deleted element. Look at how an insert finds its "
+               "place there; in a tree of elements, at how the children of a deleted one are shown: all of its left side come before all of its right side.")
 NUMBERS = ("If the editor decides by numbers (a clock, ids) which of two inserts at one place comes first, look at theirs: {element} stands behind "
            "{passed}, which replica {replica} had already. The number that {element} has must be greater than {theirs}; perhaps it is not. Usual causes: "
            "{causes}ids are compared as text, so 10 comes before 9.")
@@ -95,16 +97,16 @@ SEVERAL_APART = ("Look at how a replica orders elements when it has only some of
                  "inserts is not the same everywhere.")
 WEAK_ALONE_HOLDS = ("An editor whose server orders all changes, as Jupiter's does, promises only the weak list specification, which holds {here}. If yours is "
                     "such a one, nothing is wrong here: ask for weak alone, in the tools by --weak.")
-SETTLED = ("Look at where a replica places an incoming insert beside a deleted element: {first} was put before {middle} ({op_first}), and {then} behind it ({op_then}), so "
-           "{middle} settles their order, also where it is deleted; yet they were shown in two different orders. No rule for concurrent inserts at one place may decide here.")
+SETTLED = ("Look at where a replica places an incoming insert beside a deleted element: [{first}] was put before [{middle}] ({op_first}), and [{then}] behind it ({op_then}), so "
+           "[{middle}] settles their order, also where it is deleted; yet they were shown in two different orders. No rule for concurrent inserts at one place may decide here.")
 PAST = ("If inserts find their place by a neighbour, look at how [{other}] found its place{there}: if the search goes past [{behind}], it must also go past all that was put "
         "behind [{behind}], also in the next block of a list that is kept in blocks.")
 BETWEEN = "[{element}] was put directly behind [{behind}]. The author of [{other}] knew neither, and {operation} shows [{other}] between the two. "
 BEHIND_UNKNOWN = "[{element}] was put directly behind [{behind}], which the author of [{other}] did not know. "
 BEHIND_DELETED = " Look also at inserts beside deleted elements: where [{behind}] was thrown away as deleted, nothing says where [{element}] belongs."
 CONCURRENT = ("Look at the order of concurrent inserts: {first} and {then} were inserted{place} without knowing of each other, and were shown "
-              "in two different orders. Use a rule that gives the same order everywhere (such as the replicas' numbers), and not each replica's order of "
-              "arrival or a number it sets then. Short cuts must keep that rule.")
+              "in two different orders. Use a rule that gives the same order everywhere (such as the replicas' numbers), also in short cuts, as for "
+              "appending; not the order in which each replica received them.")
 POSITIONS = ("Look at how a position is adjusted where a change arrives: the position of {element} was perhaps not adjusted for {changes}, which "
              "replica {replica} knew and the author of {element} did not{back}. Or look at the order of concurrent inserts: {first} and {then} were inserted without knowing of each "
              "other, and were shown in two different orders. Use a rule that gives the same order everywhere (such as the replicas' numbers). Client and server must adjust alike, and each change once.")
@@ -379,10 +381,21 @@ def of_position(evidence: Evidence) -> list:
     passed = response[asked:response.index(name)]
     theirs = "theirs" if passed[1:] else f"that of {passed[0]}"
     are_own = all(insert.replica == operation.replica for one in passed for insert in evidence.recording.inserts.get(one, []))
+    gone = beside_gone(evidence, passed[0])
     if has_delete and is_younger_by_name(name, passed):
-        return [Cause("mapping", mapped), *sorted_by]
-    return [Cause("numbers", NUMBERS.format(element=name, passed=listed(passed, MOST_TOLD), replica=operation.replica, theirs=theirs, causes=CLOCK[are_own])),
+        return [*gone, Cause("mapping", mapped), *sorted_by]
+    return [*gone, Cause("numbers", NUMBERS.format(element=name, passed=listed(passed, MOST_TOLD), replica=operation.replica, theirs=theirs, causes=CLOCK[are_own])),
             *sorted_by, Cause("mapping", otherwise("If neither fits your editor" if sorted_by else "If that does not fit your editor", mapped))]
+
+
+def beside_gone(evidence: Evidence, passed: str) -> list:
+    """Of a wrong position, that the element which stands at the position was put beside one that is deleted for its replica by now."""
+    operation = evidence.operations[0]
+    for insert in evidence.recording.inserts.get(passed, [])[:1]:
+        for side, name in zip(("behind", "before"), neighbours(insert)):
+            if name and any(map(operation.has_seen, evidence.recording.deletes.get(name, []))):
+                return [Cause("beside gone", BESIDE_GONE.format(passed=passed, side=side, gone=name, insert=at(insert), replica=operation.replica, element=operation.element))]
+    return []
 
 
 def is_younger_by_name(name: str, others: list) -> bool:
