@@ -176,12 +176,12 @@ PROSEMIRROR = {
     "lost_text": ("plan 3 causal|0 ins a at 0|0 ins b after a|2 take 0 : 0.1 0.2|1 take 2 : 0.1 0.2|1 ins x before b|0 del a|0 del b|"
                   "2 take 0 : 0.3 0.4|1 take 2 : 0.3 0.4|end",
                   "contents 1.3: this response lacks one element that replica 1 should have had by then.|"
-                  "before it: replica 1's 1.2 (line 7) answered a [x] b, which is right; since then it received 0.4 (line 10)|[x] no operation deletes it|"
+                  "before it: replica 1's 1.2 (line 7) answered a [x] b, which is right; since then it received 0.4 (line 10)|[x] is never deleted|"
                   "strong and weak fail"),
     "insert_deletes": ("plan 3 causal|0 ins x at 0|2 take 0 : 0.1|1 take 2 : 0.1|1 ins b after x|1 ins a before x|1 del x|1 ins c after a|"
                        "0 del x|2 take 0 : 0.2|1 take 2 : 0.2|end",
-                       "contents 1.6: this response lacks two elements that replica 1 should have had by then.|[b] no operation deletes it|"
-                       "[a] no operation deletes it|strong and weak fail"),
+                       "contents 1.6: this response lacks two elements that replica 1 should have had by then.|[b] is never deleted|"
+                       "[a] is never deleted|strong and weak fail"),
 }
 # The first of these, but that the client's text was sent before x was deleted: with nothing to undo it stays where it was.
 CONFIRMED = ("plan 3 causal|0 ins x at 0|2 take 0 : 0.1|1 take 2 : 0.1|1 ins b after x|1 ins a before x|2 take 1 : 1.1 1.2|0 del x|"

@@ -190,7 +190,7 @@ WORDS = [
      "says another place than the one where the replica itself shows it: look at how a local insert is put into the list, and at what its change carries." +
      stop(9, "replica 0 inserts d", 10, 6)),
     ("a replica turns round what it reads, and has received nothing", 2, "0 ins a 0 : a|1 ins b 0 : b|0 recv 1 1|0 read : a b|1 recv 0 1|1 read : b a|1 read : a b", "Where to look|"
-     "Replica 1 shows b before a in 1.2 (line 8), and a before b in 1.3 (line 9), though it received and changed nothing between. Something did that which is not recorded: behind a "
+     "Replica 1 shows b before a in 1.2 (line 8), and a before b in 1.3 (line 9), though it received and changed nothing between. Something that is not recorded did that: behind a "
      "server, perhaps its answer to the replica's own change. Then server and replica make different things of one change: look at which changes each of them adjusts it for. Client "
      "and server must adjust alike, and each change once."),
     ("a read that has other elements, where nothing was received", 2, "0 ins a 0 : a|0 ins b 1 : a b|1 recv 0 2|1 read : a b|0 del a : b|1 recv 0 3|1 read : b|1 read : a", "Where to look|"
@@ -253,17 +253,17 @@ WORDS = [
      "before it: replica 2 did nothing, and received 1.1 (line 6)|Missing|"
      "[a] inserted by 0.1 (line 3), which arrived at replica 1 in line 4 (1 recv 0 1), and "
      "counts as arrived at replica 2 with 1.1, whose author had it, in line 6 (2 recv 1 1)|[a] 0.1 has no receipt of its own at replica 2, and counts as arrived with 1.1, in line 6, since the author of 1.1 had 0.1. If "
-     "each operation travels by itself, 1.1 arrived without 0.1: that is not causal order|[a] no operation deletes it||Where to look|"
+     "each operation travels by itself, 1.1 arrived without 0.1: that is not causal order|[a] is never deleted||Where to look|"
      "Look first at whether 0.1 was lost on its way to replica 2: no receipt there names it. If it was not lost but overtaken, look at the order in which "
      "operations arrive. The engine may be right: operations must arrive in causal order. Apply an operation only after everything that its author had seen, or send all of that together with it. If the editor itself holds "
      f"operations back, write the receipt of each only when it is applied. {GUIDE} shows what to record in each case."),
     ("an element lost that arrived after what had seen it", 3,
      "0 ins a 0 : a|1 recv 0 1|1 ins b 1 : a b|2 recv 1 1|2 recv 0 1|2 read : b",
      "line 8 of the trace, 2.1: replica 2 read the list|[a] 0.1's own receipt comes only in line 7 (2 recv 0 1). 1.1, whose author "
-     "already had 0.1, overtook it in line 6: that is not causal order|[a] no operation deletes it" + stop(6, "replica 2 applies 1.1")),
+     "already had 0.1, overtook it in line 6: that is not causal order|[a] is never deleted" + stop(6, "replica 2 applies 1.1")),
     ("an element lost that arrived by itself before", 3,
      "0 ins a 0 : a|2 recv 0 1|1 recv 0 1|1 ins b 1 : a b|2 recv 1 1|2 read : b",
-     "[a] inserted by 0.1 (line 3), which arrived at replica 2 in line 4 (2 recv 0 1)|[a] no operation deletes it"),
+     "[a] inserted by 0.1 (line 3), which arrived at replica 2 in line 4 (2 recv 0 1)|[a] is never deleted"),
     ("an element of one's own lost, whose delete has not arrived", 2, "0 ins a 0 : a|1 recv 0 1|1 del a :|0 read :|0 recv 1 1",
      "contents 0.2: this response lacks one element that replica 0 should have had by then.|"
      "answered: (nothing)|it should hold, in any order: [a]|"
@@ -351,7 +351,7 @@ WORDS = [
      "contents 1.3: this response lacks one element that replica 1 should have had by then.|answered: (nothing)|"
      "it should hold, in any order: [b]|before it: replica 1's 1.2 (line 8) answered [b], which is right; since then it received 0.3 (line 9)|"
      "Missing|[b] inserted by 0.2 (line 4), which arrived at replica 1 in line 5 (1 recv 0 2)|"
-     "[b] was put behind a. When it arrived at replica 1 in line 5, a was still there|[b] no operation deletes it||"
+     "[b] was put behind a. When it arrived at replica 1 in line 5, a was still there|[b] is never deleted||"
      "Where to look|"
      "It looks as if 0.3 (line 7), applied at replica 1, deleted b instead of a: look at how a replica that applies a delete "
      "finds the element. a was already deleted there, by 1.2 (line 8), so look also at what the editor does with a delete whose element is gone." + stop(9, "replica 1 applies 0.3")),
@@ -363,7 +363,7 @@ WORDS = [
      "1 recv 0 3|1 read : b",
      "contents 1.3: this response lacks one element that replica 1 should have had by then.|Missing|"
      "[c] inserted by 0.3 (line 7), which arrived at replica 1 in line 9 (1 recv 0 3)|"
-     "[c] was put behind a and before b. When it arrived at replica 1 in line 9, a was already deleted there by 1.2 (line 8)|[c] no operation deletes it||"
+     "[c] was put behind a and before b. When it arrived at replica 1 in line 9, a was already deleted there by 1.2 (line 8)|[c] is never deleted||"
      "Where to look|"
      "If inserts find their place by a neighbour, look at inserts beside deleted elements: when c arrived, its neighbour was already deleted there, as told above. An editor that throws deleted elements "
      "away too early finds no place for it, and loses it or holds it back for ever." + stop(9, "replica 1 applies 0.3")),
@@ -373,7 +373,7 @@ WORDS = [
      "1 read : a b c",
      "contents 1.1: this response lacks one element that replica 1 should have had by then.|Missing|"
      "[b] inserted by 0.2 (line 4), which counts as arrived at replica 1 with 0.3 in line 7 (1 recv 0 3)|"
-     "[b] 0.2's own receipt comes only in line 9 (1 recv 0 2). 0.3 overtook it in line 7: that is not causal order|[b] no operation deletes it|"
+     "[b] 0.2's own receipt comes only in line 9 (1 recv 0 2). 0.3 overtook it in line 7: that is not causal order|[b] is never deleted|"
      "Look at the order in which operations arrive: 0.2 was overtaken, as told above. The engine may be right: operations must arrive in causal order. Apply an operation only after everything that its author had seen, or send all of that together with it. If the editor itself holds "
      f"operations back, write the receipt of each only when it is applied. {GUIDE} shows what to record in each case."
      + stop(7, "replica 1 applies 0.3", together=6)),
@@ -382,7 +382,7 @@ WORDS = [
      "[b] 0.2 has no receipt of its own at replica 1, though all other changes of replica 0 have one. 0.2 was lost, or 0.3 overtook it in line 9"),
     ("one receipt for several changes of an author", 2, "0 ins a 0 : a|0 ins b 1 : a b|0 ins c 2 : a b c|1 recv 0 3|1 read : a c",
      "[b] inserted by 0.2 (line 4), which counts as arrived at replica 1 with 0.3 in line 6 (1 recv 0 3)|"
-     "[b] was put behind a. When it arrived at replica 1 in line 6, a was still there|[b] no operation deletes it||Where to "
+     "[b] was put behind a. When it arrived at replica 1 in line 6, a was still there|[b] is never deleted||Where to "
      "look|It looks as if 0.2 (line 4) was not applied at replica 1: lost, or held back, or `received` is called before the change is applied.|No "
      "receipt at replica 1 names 0.2 (line 4): it counts as arrived with 0.3, in line 6. If you record a receipt for each change, 0.2 was "
      "lost, or 0.3 overtook it."),
@@ -417,7 +417,7 @@ WORDS = [
      "It looks as if 0.2 (line 6) and 0.3 (line 7) were applied at replica 1 without a receipt: the call of `received` is missing, comes too "
      "late, or names another operation." + stop(8, "replica 1 reads the list")),
     ("an element lost that was there before, beside one that came", 2, "0 ins a 0 : a|1 recv 0 1|1 read : a|0 ins b 1 : a b|1 recv 0 2|1 read : b",
-     "Missing|[a] no operation deletes it||Where to look|"
+     "Missing|[a] is never deleted||Where to look|"
      "Replica 1 showed a in 1.1 (line 5); since then it only received the insert of b by 0.2 (line 6), and none of what has come deletes it. Look at what 0.2 does there: "
      "does an arriving state replace the replica's own, or does the editor take back its own changes when others' arrive?|"
      "If that is not the cause: check three things, one after the other. Recorder: `received` must be called right after the change is applied. Transport: a change must arrive after "
@@ -440,6 +440,12 @@ WORDS = [
     ("a number that does not grow at one replica", 1, "0 ins b 0 : b|0 ins a 0 : b a", "Where to look|"
      "If the editor decides by numbers (a clock, ids) which of two inserts at one place comes first, look at theirs: a stands behind b, which replica 0 had already. The number that a has "
      "must be greater than that of b; perhaps it is not. Usual causes: the clock does not advance with each insert; ids are compared as text, so 10 comes before 9.|"),
+    ("an own deleted element that comes back, and a list that heals", 2, "0 ins a 0 : a|1 ins r 0 : r|1 del r :|1 recv 0 1|1 read : r|1 read : a", "Where to look|"
+     "When the insert of a by 0.1 (line 3) came, r, which replica 1 had deleted itself (1.2 (line 5)), came back, and a is not there: perhaps that delete now hits it. Look at how the "
+     "replica's own changes that are still on their way are adjusted for what arrives, and at how it takes them back and applies them anew, if it does.|"),
+    ("a wrong list that heals", 2, "0 ins a 0 : a|1 recv 0 1|1 read :|1 read : a", "Later replica 1 reads another list in 1.2 (line 6) than in 1.1 (line 5), though it received and changed nothing "
+     "between. Something that is not recorded did that: behind a server, perhaps its answer to the replica's own change. Then server and replica make different things of one change: look "
+     "at which changes each of them adjusts it for. Client and server must adjust alike, and each change once.|"),
     ("an insert beside a deleted element, at a wrong position", 2, "0 ins a 0 : a|0 ins b 1 : a b|1 recv 0 2|1 read : a b|1 del a : b|1 ins c 0 : b c", "found at: position 1||Where to look|"
      "b was put behind a (0.2 (line 4)), which is deleted at replica 1 by now: so c belongs beside a deleted element. Look at how an insert finds its place there; in a tree of elements, "
      "at how the children of a deleted one are shown: all of its left side come before all of its right side.|"),
@@ -448,7 +454,7 @@ WORDS = [
      "the whole trace is `contents 0.2` (told below).||When it went wrong|"
      "line 4 of the trace, 1.2: replica 1 read the list. Up to line 3 the session is accepted; line 4 leads to `contents 1.2`|"
      "the first 4 lines are enough to show it (`head -4`)||The response|line 4 of the trace, 1.2: replica 1 read the list|answered: (nothing)|"
-     "[a] inserted by 1.1 (line 3), an earlier operation of replica 1|[a] no operation deletes it||Where to look|"
+     "[a] inserted by 1.1 (line 3), an earlier operation of replica 1|[a] is never deleted||Where to look|"
      "Replica 1 answered what is right in 1.1 (line 3), and has received nothing since. Look at what replica 1 itself does between the two; behind a server, at what its answer to the replica's own change does there." + stop(4, "replica 1 reads the list")
      + "||What the verdict on the whole trace is about|line 7, 0.2: replica 0 read the list, answered (nothing): this response lacks one element that replica 0 should have had "
      "by then|it lacks a||The list specifications|by the whole trace, strong and weak fail"),
@@ -721,7 +727,7 @@ PLACES = [
 UNDELIVERED = "0 ins a 0 : a|1 recv 0 1|1 read : a|0 ins b 1 : a b|0 del a : b|0 read : b|0 read : b|1 recv 0 3|1 read : a"
 UNDELIVERED_WORDS = """Missing
 [b] inserted by 0.2 (line 6), which counts as arrived at replica 1 with 0.3 in line 10 (1 recv 0 3), a line that `delivered` wrote
-[b] no operation deletes it
+[b] is never deleted
 
 Extra
 [a] inserted by 0.1 (line 3), which arrived at replica 1 in line 4 (1 recv 0 1)

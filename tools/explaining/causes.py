@@ -79,6 +79,12 @@ REORDERED = ("Replica {replica} itself changed the order of elements that it had
              "or received later.")
 MAPPING = ("Look at how the position that a user sees is mapped to a place in the editor's own list{deleted}; and at whether the "
            "recorder writes the position that was asked for.")
+OWN_BACK_AGAIN = ("When {came} came, {back}, which replica {replica} had deleted itself ({delete}), came back{lost}. Look at how the replica's own changes that are still on "
+                  "their way are adjusted for what arrives, and at how it takes them back and applies them anew, if it does.")
+OWN_LOST = ", and {missing} {is_} not there: perhaps that delete now hits {it}"
+HEALED = ("Later replica {other} reads another list in {after} than in {before}, though it received and changed nothing between. Something that is not recorded did that: behind a "
+          "server, perhaps its answer to the replica's own change. Then server and replica make different things of one change: look at which changes each of them adjusts it for. "
+          "Client and server must adjust alike, and each change once.")
 BESIDE_GONE = ("{passed} was put {side} {gone} ({insert}), which is deleted at replica {replica} by now: so {element} belongs beside a deleted element. Look at how an insert finds its "
                "place there; in a tree of elements, at how the children of a deleted one are shown: all of its left side come before all of its right side.")
 NUMBERS = ("If the editor decides by numbers (a clock, ids) which of two inserts at one place comes first, look at theirs: {element} stands behind "
@@ -120,8 +126,8 @@ SEEN = ("Look at where replica {replica} placed [{new}]{arrived}: its author, re
 SHOWN_ALONE = ("Only replica {replica}, which inserted [{new}] ({insert}, line {line}), shows it {side} [{old}], and only until its next receipt (line {receipt}); the "
                "others, and replica {replica} itself in {own}, show it {other_side} [{old}]. So the insert's change "
                "says another place than the one where the replica itself shows it: look at how a local insert is put into the list, and at what its change carries.")
-TURNED_BY_ITSELF = ("Replica {replica} shows {two} before {one} in {before}, and {one} before {two} in {after}, though it received and changed nothing between. Something did that "
-                    "which is not recorded: behind a server, perhaps its answer to the replica's own change. Then server and replica make different things of one change: look at "
+TURNED_BY_ITSELF = ("Replica {replica} shows {two} before {one} in {before}, and {one} before {two} in {after}, though it received and changed nothing between. Something that is not "
+                    "recorded did that: behind a server, perhaps its answer to the replica's own change. Then server and replica make different things of one change: look at "
                     "which changes each of them adjusts it for. Client and server must adjust alike, and each change once.")
 MOVED_INSERT = ("If the editor sends positions, the position of {element} was perhaps not adjusted for {changes}, which replica {replica} "
                 "knew and the author of {element} did not{back}.")
@@ -153,7 +159,7 @@ def otherwise(condition: str, look: str) -> str:
 def of_contents(evidence: Evidence) -> list:
     if evidence.undelivered:
         return [undelivered(evidence)]
-    found = [*applied_twice(evidence), *in_part(evidence), *wrong_delete(evidence, evidence.operations[0]), *second_delete(evidence), *overtaken(evidence), *lost_neighbour(evidence)]
+    found = [*own_back(evidence), *applied_twice(evidence), *in_part(evidence), *wrong_delete(evidence, evidence.operations[0]), *second_delete(evidence), *overtaken(evidence), *lost_neighbour(evidence)]
     found += too_much(evidence) if not found else []
     more = unlike_receipts(evidence) if all(cause.name in ("lost neighbour", "applied in part") for cause in found) else []
     is_loss_first = is_loss_likelier(evidence, found or more)
@@ -164,6 +170,7 @@ def of_contents(evidence: Evidence) -> list:
     itself = vanished(evidence) if not found and not unknown else []
     if itself:
         return itself
+    found += healed(evidence)
     found += replaced(evidence) if not found else []
     if unknown:
         found = [Cause("unknown", UNKNOWN.format(names=listed(unknown, MOST_TOLD))), *found]
@@ -318,6 +325,29 @@ def too_much(evidence: Evidence) -> list:
     return [Cause("too much", TOO_MUCH.format(deletes=listed(list(map(at, deletes)), MOST_TOLD), replica=operation.replica, missing=listed(evidence.missing, MOST_TOLD),
                                               before=at(before), it="them" if evidence.missing[1:] else "it",
                                               theirs=listed(list(dict.fromkeys(delete.element for delete in deletes)), MOST_TOLD)))]
+
+
+def own_back(evidence: Evidence) -> list:
+    """Of a response that shows again what its replica had deleted itself, and had not shown before, where changes have come since."""
+    operation = evidence.operations[0]
+    before = next((one for one in reversed(evidence.recording.streams[operation.replica][:operation.n - 1]) if one.kind != "view"), None)
+    came = evidence.came_between(before, operation) if before is not None else []
+    deletes = [delete for name in evidence.surplus for delete in evidence.recording.deletes.get(name, [])
+               if delete.replica == operation.replica and before is not None and before.has_seen(delete) and name not in before.response]
+    if not came or not deletes or len(deletes) != len(evidence.surplus) or evidence.repeated:
+        return []
+    is_one = not evidence.missing[1:]
+    lost = OWN_LOST.format(missing=listed(evidence.missing, MOST_TOLD), is_="is" if is_one else "are", it="it" if is_one else "one of them") if evidence.missing else ""
+    return [Cause("own back", OWN_BACK_AGAIN.format(came=named(came), back=listed(evidence.surplus, MOST_TOLD), replica=operation.replica,
+                                                    delete=listed(list(map(at, deletes)), MOST_TOLD), lost=lost))]
+
+
+def healed(evidence: Evidence) -> list:
+    """That some replica reads another list than before, and has received nothing between, later than the wrong response."""
+    if evidence.healed is None:
+        return []
+    before, after = evidence.healed
+    return [Cause("healed", HEALED.format(other=after.replica, before=at(before), after=at(after)))]
 
 
 def vanished(evidence: Evidence) -> list:

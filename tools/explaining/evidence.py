@@ -162,6 +162,18 @@ class Evidence:
                     found += [(one, two, before, after) for one, two in turned(before.response, after.response) if {one, two} & set(self.elements)]
         return next((pair for pair in found if {*pair[:2]} == set(self.elements)), found[0] if found else None)
 
+    @cached_property
+    def healed(self) -> tuple | None:
+        """Of wrong contents, the first read behind them that shows another list than its replica's response before, but views, though the replica
+        received nothing between; and that response."""
+        line = self.operations[0].line
+        found = []
+        for stream, receipts in zip(self.recording.streams, self.recording.receipts):
+            received = {receipt.before for receipt in receipts}
+            found += [(before, after) for before, after in zip(stream, stream[1:]) if after.line > line and after.kind == "read" and before.kind != "view"
+                      and before.n not in received and after.response != before.response]
+        return min(found, key=lambda pair: pair[1].line, default=None)
+
     def came_between(self, before: Operation, after: Operation) -> list:
         """The changes of others that came to a replica between two operations of it."""
         return [change for change in self.recording.changes() if change.replica != after.replica and after.has_seen(change) and not before.has_seen(change)]

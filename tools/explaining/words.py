@@ -343,7 +343,7 @@ def facts(evidence: Evidence, name: str, operation: Operation) -> list:
             told = [line for one, found in evidence.overtakings if one.element == other for line in overtaken(evidence, one, operation)]
             lines += [f"was put beside {other}, which {recording.inserts[other][0].name} inserted: {line}" for line in told]
     if name in recording.inserts and name not in recording.deletes:
-        lines.append("no operation deletes it")
+        lines.append("is never deleted")
     return [f"[{name}] {line}" for line in lines]
 
 
