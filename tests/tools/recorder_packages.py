@@ -551,10 +551,10 @@ import { Recording } from "domepeeler"
 const recording = new Recording(2)
 recording.insert(0, "a", 0, ["a"])
 const fail = () => { throw new Error("no name") }
-const failing = { get 0() { return fail() }, length: 1, [Symbol.iterator]: fail }
+const failing = Object.defineProperty(["a"], 0, { get: fail })
 for (const act of [() => recording.read(0, failing), () => recording.receivedChanges(1, { [Symbol.iterator]: fail }),
                    () => recording.delivered([["a"], failing])]) try { act() } catch { /* as an event loop does */ }
-console.log(recording.warnings()[0])
+console.log((await recording.warnings())[0])
 '''
 
 # Tests of Node of which one ends the process, in its body or in a hook.
