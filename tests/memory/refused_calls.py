@@ -102,6 +102,7 @@ TESTS = {
     "ListLayers::new": ("certificate", "rows_of_worked_recordings_along_lists"),
     "ListLayers::layers_from": ("certificate", "rows_of_worked_recordings_along_lists"),
     "thinned": ("certificate", "rows_of_worked_recordings_along_lists"),
+    "ListRule::new": ("list_rule", "rows_by_the_definition"),
     "OrderGraph::of": ("graph_tests", "steps_of_worked_recordings", "marks_of_the_ring_of_four"),
     "BeforeTable::of": ("graph_tests", "rows_that_a_search_of_the_ring_of_four_looks_at"),
     "Sets::new": ("graph_tests", "rows_that_a_search_of_the_ring_of_four_looks_at"),
