@@ -2901,6 +2901,30 @@ def check_spawns(tally: Tally, folder: Path) -> None:
         tally.check(f"C: {compiler}: judges by posix_spawn", wants & {"posix_spawn", "posix_spawnp"} and not wants & COPIES, wants)
 
 
+# A process that is forked in C, and records.
+FORKED_C = f"""#include "{ROOT / 'recorders'}/domepeeler.h"
+#include <sys/wait.h>
+int main(void) {{
+    const char *list[] = {{"a"}};
+    struct domepeeler *recording = domepeeler_new(1);
+    if (!domepeeler_insert(recording, 0, "a", 0, list, 1)) return 1;
+    pid_t child = fork();
+    if (!child) _exit(domepeeler_read(recording, 0, NULL, 0) ? 2 : strstr(domepeeler_why(recording), "this process was forked") ? 3 : 4);
+    int status = 0;
+    waitpid(child, &status, 0);
+    return WEXITSTATUS(status) == 3 && domepeeler_read(recording, 0, list, 1) ? 0 : WEXITSTATUS(status);
+}}
+"""
+
+
+def check_forked_c(tally: Tally, folder: Path) -> None:
+    """In C too a process that is forked records into no copy, and the one that forked it goes on."""
+    (folder / "forked.c").write_text(FORKED_C)
+    made = subprocess.run([*GCC, "-D_POSIX_C_SOURCE=200809L", "-o", "forked", "forked.c", "-lpthread"], cwd=folder, capture_output=True, text=True)
+    status = subprocess.run(["./forked"], cwd=folder).returncode if made.returncode == 0 else made.stderr
+    tally.check("C: a process that is forked", status == 0, status)
+
+
 # Calls in C from lines that other programs wrote, from none, and from a wrapper as the recorder's head has it; what is refused names none.
 PLACES_C = f"""#include "{ROOT / 'recorders'}/domepeeler.h"
 static struct domepeeler *recording;
@@ -3491,6 +3515,7 @@ def main() -> None:
         check_own_panics(tally, program, folder)
         check_compilers(tally, folder)
         check_spawns(tally, folder)
+        check_forked_c(tally, folder)
         check_places_c(tally, program, folder)
         check_stop_cpp(tally, program, folder)
         check_shared_recordings(tally, program, folder)
