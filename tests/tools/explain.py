@@ -174,7 +174,7 @@ WORDS = [
      "c was put behind a and before b. When it arrived at replica 1 in line 13, both were already deleted there: a by 1.1 (line 8), b by 0.3 (line "
      "9)|c arrived at replica 1 in line 13, d at replica 2 in line 15"),
     ("a session that goes on", 2, f"{BESIDE_DELETED}|0 recv 1 2|0 read : d c|1 read : c d",
-     "When it went wrong|line 11 of the trace, 1.3: replica 1 read the list. Up to line 10 the session is accepted; line 11 leads to `refused 2`|"
+     "When it showed|line 11 of the trace, 1.3: replica 1 read the list. Up to line 10 the session is accepted; line 11 leads to `refused 2`|"
      "before it: replica 1's 1.2 (line 8) answered c, which fits; since then it received 0.3 (line 10)|"
      "in the end replicas 0 and 1 have every change, as the receipts say, and show the same elements in different orders||"
      "What these responses show: a circle, which no order allows|"
@@ -183,7 +183,7 @@ WORDS = [
      "c arrived at replica 0 in line 6, d at replica 1 in line 10||"
      "Where to look" + stop(10, "replica 1 applies 0.3", 6)),
     ("a session that goes on, with one list in the end", 2, f"{BESIDE_DELETED}|0 recv 1 2|0 read : c d",
-     "When it went wrong|line 11 of the trace, 1.3: replica 1 read the list. Up to line 10 the session is accepted; line 11 leads to `refused 2`|"
+     "When it showed|line 11 of the trace, 1.3: replica 1 read the list. Up to line 10 the session is accepted; line 11 leads to `refused 2`|"
      "before it: replica 1's 1.2 (line 8) answered c, which fits; since then it received 0.3 (line 10)|"
      "in the end replicas 0 and 1 have every change, as the receipts say, and show the same list||Where to look|Only replica 0, which inserted "
      "[d] (0.3, line 9), shows it before [c], and only until its next receipt (line 12); the others, and replica 0 itself in 0.4 (line 13), show it behind [c]. So the insert's change "
@@ -199,7 +199,7 @@ WORDS = [
     ("a beginning that shows something else", 3, f"{THREE_WAY}|1 recv 0 2|1 recv 2 1|1 read : a b",
      "refused 3: three responses can't be right together. Any two of them can. This is what went wrong first, within the "
      "first 11 lines. The verdict on the whole trace is `refused 2` (told below).||"
-     "When it went wrong|line 11 of the trace, 0.3: replica 0 read the list. Up to line 10 the session is accepted; line 11 leads to "
+     "When it showed|line 11 of the trace, 0.3: replica 0 read the list. Up to line 10 the session is accepted; line 11 leads to "
      "`refused 3`|"
      "before it: replica 0's 0.2 (line 8) answered (nothing), which fits; since then it received 1.1 (line 9), 2.1 (line 10)|"
      "in the end replicas 0 and 1 have every change, as the receipts say, and show the same elements in different orders||"
@@ -487,7 +487,7 @@ ALONE = "weak holds, strong doesn't: this passes, since only the weak list speci
 FAILS_WEAK = [
     # Where strong failed before, the session went wrong where weak fails.
     ("opposite orders after the cycle", f"{THREE_WAY}|1 recv 0 2|1 recv 2 1|1 read : a b|2 recv 0 2|2 recv 1 1|2 read : a b", "refused 2: ", [
-        "When it went wrong", "line 14 of the trace, 1.2: replica 1 read the list. Up to line 13 weak holds; line 14 leads to `refused 2`",
+        "When it showed", "line 14 of the trace, 1.2: replica 1 read the list. Up to line 13 weak holds; line 14 leads to `refused 2`",
         "before it: replica 1's 1.1 (line 6) answered a x, which agrees with all responses up to then; since then it received 0.2 (line 12), 2.1 (line 13)",
         "[a] before [b]: line 14, 1.2: replica 1 read the list, answered [a] [b]",
         "[b] before [a]: line 11, 0.3: replica 0 read the list, answered [b] [a]", "strong and weak fail"]),
@@ -971,7 +971,7 @@ def beginning(tally: Tally, program: str, text: str, report: dict, said: str) ->
     """The line with which a refused session went wrong is told where it is not the last one: the program accepts the lines before it,
     and refuses them with it. Where it reports other steps of these than of the whole, they are told. Answers the text up to that line, and
     the report on it."""
-    told = paragraph(said, "When it went wrong")
+    told = paragraph(said, "When it showed")
     front, shown = said.partition("\nWhat the whole trace shows: ")[::2]
     lines = text.splitlines(keepends=True)
     last = int(re.match(r"  line (\d+) of the trace, ", told)[1]) if told else len(lines)
@@ -1006,7 +1006,7 @@ def sooner(tally: Tally, program: str, text: str, report: dict, said: str) -> tu
             named.append(at)
     of_whole, of_first = (" ".join([one["verdict"], *(str(one[key]) for key in ("k", "at", "first", "again") if key in one)])
                           for one in (report, first))
-    told = paragraph(said, "When it went wrong").splitlines()
+    told = paragraph(said, "When it showed" if first["verdict"] == "refused" else "When it went wrong").splitlines()
     wanted = count < max(named)
     is_right = bool(told) and told[0].startswith(f"  line {count} of the trace, ") and (
         first["verdict"] == "refused" or told[1:] == [f"  the first {count} lines are enough to show it (`head -{count}`)"]) and told[0].endswith(f". Up to line {count - 1} the session is accepted; line {count} leads to `{of_first}`")
@@ -2137,7 +2137,7 @@ def weak(tally: Tally, program: str, folder: str) -> None:
     without, got = (explain(program, [*goal, "-"], trace) for goal in ([], ["--weak"]))
     asks, rest = re.subn(rb"  An editor whose server orders .* in the tools by --weak\.\n", b"", without.out)[::-1]
     tally.same("weak: it passes, and the explanation follows, but for how to ask for it", (asks, got), (1, Ended(0, ALONE.encode() + rest.replace(
-        b"When it went wrong", b"When strong came to fail"), b"")))
+        b"When it showed", b"When strong came to fail"), b"")))
     tally.check("weak: not asked for", without.status == 1 and without.out.startswith(b"refused 3: "), without)
     got = explain(program, ["--weak", "-"], text_of(3, THREE_WAY).encode())
     lines = got.out.decode().split("\n")

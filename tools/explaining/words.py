@@ -97,7 +97,8 @@ def when_it_went_wrong(evidence: Evidence, told: Evidence, weak: bool) -> list:
         lines += [since(told, entry, still), *([] if told.unreceived else in_the_end(evidence.recording))]
     else:
         lines.append(f"the first {last} lines are enough to show it (`head -{last}`)")
-    return [Section("When strong came to fail" if is_alone else "When it went wrong", lines)]
+    went = "When it showed" if told.report["verdict"] == "refused" else "When it went wrong"  # which of two responses is wrong, nothing says
+    return [Section("When strong came to fail" if is_alone else went, lines)]
 
 
 def whole_trace(evidence: Evidence, told: Evidence) -> list:
