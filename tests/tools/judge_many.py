@@ -1305,6 +1305,14 @@ def names_like_commands(tally: Tally, program: str, folder: str) -> None:
     tally.check("names like commands: merge.py", done.returncode == 2 and not CI_COMMAND.search(done.stdout + done.stderr), done)
 
 
+def left_running(pids: list) -> list:
+    """Which of the processes still run after some time, which a busy machine takes to end them."""
+    until = time.monotonic() + 10
+    while (left := [pid for pid in pids if is_running(pid)]) and time.monotonic() < until:
+        time.sleep(0.02)
+    return left
+
+
 def stopped(tally: Tally, folder: str, other: str) -> None:
     """SIGTERM and SIGHUP end it, and what judges for it, or looks at a big trace: also where that has answered of the whole trace, and is
     asked of a beginning, and where GNU parallel has begun it. So does Ctrl-C, which a terminal sends to all of a group."""
@@ -1333,7 +1341,7 @@ def stopped(tally: Tally, folder: str, other: str) -> None:
             running.send_signal(stop)
         out, err = running.communicate(timeout=30)
         tally.same(f"stopped: {stop.name}, {words}", Ended(running.returncode, out, err), Ended(-stop, b"", b""))
-        left = [pid for pid in begun.read_text().split() if is_running(pid)]
+        left = left_running(begun.read_text().split())
         tally.check(f"stopped: {stop.name}, {words}: nothing runs on", left == [] and begun.read_text(), left)
     stopped_soon(tally, other)
 
@@ -1704,7 +1712,7 @@ def script_ended(tally: Tally, place: str, path: str, script: str, folder: str) 
             time.sleep(0.01)
         running.send_signal(stop)
         out, err = running.communicate(timeout=30)
-        left = [pid for pid in begun.read_text().split() if is_running(pid)]
+        left = left_running(begun.read_text().split())
         tally.check(f"script of CI: stopped by {stop.name}", (running.returncode, out, err, left) == (-stop, b"", b"", []),
                     (running.returncode, out, err, left))
 
@@ -1728,7 +1736,7 @@ def explained_side_by_side(tally: Tally, place: str, path: str, script: str, fol
         if status != 1:
             running.send_signal(signal.SIGTERM)
         out, err = running.communicate(timeout=90)
-        left = [pid for pid in begun.read_text().split() if is_running(pid)]
+        left = left_running(begun.read_text().split())
         tally.check(f"script of CI: {wanted} are explained at a time, {status}", running.returncode == status and not left and (
             status != 1 or "at 600" not in out and out.startswith("failing/a.trace: at ") and "4 not accepted: " in out), (out, err, left))
 
