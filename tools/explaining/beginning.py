@@ -29,7 +29,7 @@ def of_beginning(evidence: Evidence, judge: Callable, weak: bool) -> Evidence:
         return evidence
     count, report = failing_beginning(evidence, judge, weak) or (len(evidence.recording.lines), evidence.report)
     is_whole = count == len(evidence.recording.lines) or evidence.report["verdict"] == "refused" != report["verdict"]
-    return evidence if is_whole else Evidence(evidence.recording, report, count)
+    return evidence if is_whole else Evidence(evidence.recording, report, count, evidence.kind)
 
 
 def failing_beginning(whole: Evidence, judge: Callable, weak: bool = False) -> tuple | None:

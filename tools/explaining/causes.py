@@ -7,6 +7,7 @@ import re
 from typing import NamedTuple
 
 from .evidence import Evidence
+from .kinds import IDENTIFIERS, NEIGHBOURS, POSITIONS, TREE, fitting, is_possible
 from .positions import are_put_at_once, elements_before, met, met_before, met_inserts, neighbours, put_there_at_once
 from .programs import GUIDE
 from .recordings import Operation, place_asked
@@ -54,8 +55,7 @@ UNKNOWN = ("No line inserts {names}. Perhaps the insert was not recorded, or und
            "what was there, and the others receive it.")
 REPLACED = ("Replica {replica} showed {missing} in {before}; since then it only received {came}, and none of what has come deletes {it}. Look at what {came_first} does there: "
             "does an arriving state replace the replica's own, or does the editor take back its own changes when others' arrive?")
-VANISHED = ("Replica {replica} answered what is right in {before}, and has received nothing since. Look at what replica {replica} itself does between the two; behind a server, at "
-            "what its answer to the replica's own change does there.")
+VANISHED = "Replica {replica} answered what is right in {before}, and has received nothing since. Look at what replica {replica} itself does between the two{unrecorded}"
 TOO_MUCH = ("It looks as if {deletes}, applied at replica {replica}, deleted {missing} along with {theirs}: {missing} stood there in {before}, and no change that "
             "has come since deletes {it}. Look at where the replica begins to delete there, and at how many elements it deletes.")
 SECOND_DELETE = ("It looks as if {again}, applied at replica {replica}, deleted {missing} instead of {element}: look at how a replica that applies a delete "
@@ -70,21 +70,31 @@ LOST_NEIGHBOUR = ("If inserts find their place by a neighbour, look at inserts b
                   "holds it back for ever.")
 NUMBERS_OF_INSERTS = (" Often the clock that decides between inserts does not advance when changes arrive, or the neighbour is not found; or elements are stored "
                       "in runs (blocks of several), and a run is split at a wrong place: deleted elements count too.")
-IDENTIFIERS = ("If the list is sorted by position identifiers, print those of {names} at line {line}. If they do not rise in this order, look at how the "
+OF_INSERTS = {
+    "": NUMBERS_OF_INSERTS, NEIGHBOURS: NUMBERS_OF_INSERTS, POSITIONS: " Client and server must adjust alike, and each change once.", IDENTIFIERS: "",
+    TREE: " Often the clock that decides between children does not advance when changes arrive, or the parent or the side is not the one that the author meant, as where the element beside it is deleted.",
+}
+IDENTIFIERS_OF = ("If the list is sorted by position identifiers, print those of {names} at line {line}. If they do not rise in this order, look at how the "
                "one of {element} was made; if they do, at how identifiers are compared (numbers must not be compared as text).")
 SORTED = ("If the list is sorted by position identifiers, look at those of {names}: are {two} equal, does one differ between "
-          "replicas, are numbers compared as text, or was one not made between its neighbours'?")
+          "replicas, are numbers compared as text, or was one not made between its neighbours'?{circle}")
+NO_ORDER = " Or does the comparison go in a circle, as when numbers and authors are compared by turns?"
 REORDERED = ("Replica {replica} itself changed the order of elements that it had shown: {one} before {two} in {before}, {two} before {one} in {after}. Between the two "
              "it {did}. Look at what decides which of {two} and {one} comes first: once both are inserted, it must never change, whatever is inserted, deleted "
              "or received later.")
 MAPPING = ("Look at how the position that a user sees is mapped to a place in the editor's own list{deleted}; and at whether the "
            "recorder writes the position that was asked for.")
-OWN_BACK_AGAIN = ("When {came} came, {back}, which replica {replica} had deleted itself ({delete}), came back{lost}. Look at how the replica's own changes that are still on "
-                  "their way are adjusted for what arrives, and at how it takes them back and applies them anew, if it does.")
+OWN_BACK_AGAIN = "When {came} came, {back}, which replica {replica} had deleted itself ({delete}), came back{lost}. Look at "
+OWN_ADJUSTED = "how the replica's own changes that are still on their way are adjusted for what arrives, and at how it takes them back and applies them anew, if it does."
+SHOWN_AGAIN = ("what applies that there: is an element that is marked as deleted shown again, made anew by an insert that arrives a second time, or brought back by a state that "
+               "is older than the delete?")
 OWN_LOST = ", and {missing} {is_} not there: perhaps that delete now hits {it}"
-HEALED = ("Later replica {other} reads another list in {after} than in {before}, though it received and changed nothing between. Something that is not recorded did that: behind a "
-          "server, perhaps its answer to the replica's own change. Then server and replica make different things of one change: look at which changes each of them adjusts it for. "
-          "Client and server must adjust alike, and each change once.")
+HEALED = "Later replica {other} reads another list in {after} than in {before}, though it received and changed nothing between. Something that is not recorded did that: "
+BY_SERVER = ("behind a server, perhaps its answer to the replica's own change. Then server and replica make different things of one change: look at which changes each of them "
+             "adjusts it for. Client and server must adjust alike, and each change once.")
+BY_ITSELF = "perhaps deleted elements are thrown away there, changes that were held back are applied, or a copy of the list that is shown is made anew."
+UNRECORDED = {True: "; behind a server, at what its answer to the replica's own change does there.",
+              False: ": are deleted elements thrown away there, changes that were held back applied, or a copy of the list made anew?"}
 BESIDE_GONE = ("{passed} was put {side} {gone} ({insert}), which is deleted at replica {replica} by now: so {element} belongs beside a deleted element. Look at how an insert finds its "
                "place there; in a tree of elements, at how the children of a deleted one are shown: all of its left side come before all of its right side.")
 NUMBERS = ("If the editor decides by numbers (a clock, ids) which of two inserts at one place comes first, look at theirs: {element} stands behind "
@@ -104,7 +114,16 @@ SEVERAL_APART = ("Look at how a replica orders elements when it has only some of
 WEAK_ALONE_HOLDS = ("An editor whose server orders all changes, as Jupiter's does, promises only the weak list specification, which holds {here}. If yours is "
                     "such a one, nothing is wrong here: ask for weak alone, in the tools by --weak.")
 SETTLED = ("Look at where a replica places an incoming insert beside a deleted element: [{first}] was put before [{middle}] ({op_first}), and [{then}] behind it ({op_then}), so "
-           "[{middle}] settles their order, also where it is deleted; yet they were shown in two different orders. No rule for concurrent inserts at one place may decide here.")
+              "[{middle}] settles their order, also where it is deleted; yet they were shown in two different orders. {then_what}")
+SETTLED_BY = {
+    "": "No rule for concurrent inserts at one place may decide here.",
+    NEIGHBOURS: "No rule for concurrent inserts at one place may decide here: the search for the place must still find [{middle}], or what stood for it.",
+    TREE: "No rule for concurrent inserts at one place may decide here: look at how the children of [{middle}] and of its neighbours are ordered and shown where it is deleted.",
+    IDENTIFIERS: "Print the identifiers of [{first}], [{middle}] and [{then}] at both replicas: they must rise in this order. If they do not, look at how the one of [{first}] or "
+                 "[{then}] was made; if they do, at how they are compared, and at the search for a place.",
+    POSITIONS: "Where [{middle}] is deleted both stand at one position, and that does not tell which comes first: look at what an insert is adjusted for at an equal position, on the "
+               "server and on each client, and whether a delete that came between is taken in the same order everywhere.",
+}
 PAST = ("If inserts find their place by a neighbour, look at how [{other}] found its place{there}: if the search goes past [{behind}], it must also go past all that was put "
         "behind [{behind}], also in the next block of a list that is kept in blocks.")
 BETWEEN = "[{element}] was put directly behind [{behind}]. The author of [{other}] knew neither, and {operation} shows [{other}] between the two. "
@@ -112,7 +131,16 @@ BEHIND_UNKNOWN = "[{element}] was put directly behind [{behind}], which the auth
 BEHIND_DELETED = " Look also at inserts beside deleted elements: where [{behind}] was thrown away as deleted, nothing says where [{element}] belongs."
 CONCURRENT = ("Look at the order of concurrent inserts: {first} and {then} were inserted{place} without knowing of each other, and were shown "
               "in two different orders. Use a rule that gives the same order everywhere (such as the replicas' numbers), also in short cuts, as for "
-              "appending; not the order in which each replica received them.")
+              "appending; not the order in which each replica received them.{print}")
+PRINT = {  # what tells the replica that sends from the one that applies
+    "": "", POSITIONS: " Client and server must adjust alike, and each change once.",
+    NEIGHBOURS: " To see where it goes wrong, print what replica {one} and replica {other} keep of both: neighbour, number, author. Where that differs, look at what is sent and what "
+                "changes it later; where it is the same, at how the place of an incoming insert is found.",
+    TREE: " To see where it goes wrong, print what replica {one} and replica {other} keep of both: parent, side, number, author. Where that differs, look at what is sent and what "
+          "changes it later; where it is the same, at how children are ordered, and how the tree is walked.",
+    IDENTIFIERS: " To see where it goes wrong, print both identifiers at replica {one} and replica {other}. Where they differ between replicas, look at what is sent; where they are equal to "
+                 "each other, at how they are made; else at how they are compared, and at the search for a place.",
+}
 POSITIONS = ("Look at how a position is adjusted where a change arrives: the position of {element} was perhaps not adjusted for {changes}, which "
              "replica {replica} knew and the author of {element} did not{back}. Or look at the order of concurrent inserts: {first} and {then} were inserted without knowing of each "
              "other, and were shown in two different orders. Use a rule that gives the same order everywhere (such as the replicas' numbers). Client and server must adjust alike, and each change once.")
@@ -127,8 +155,7 @@ SHOWN_ALONE = ("Only replica {replica}, which inserted [{new}] ({insert}, line {
                "others, and replica {replica} itself in {own}, show it {other_side} [{old}]. So the insert's change "
                "says another place than the one where the replica itself shows it: look at how a local insert is put into the list, and at what its change carries.")
 TURNED_BY_ITSELF = ("Replica {replica} shows {two} before {one} in {before}, and {one} before {two} in {after}, though it received and changed nothing between. Something that is not "
-                    "recorded did that: behind a server, perhaps its answer to the replica's own change. Then server and replica make different things of one change: look at "
-                    "which changes each of them adjusts it for. Client and server must adjust alike, and each change once.")
+                    "recorded did that: ")
 MOVED_INSERT = ("If the editor sends positions, the position of {element} was perhaps not adjusted for {changes}, which replica {replica} "
                 "knew and the author of {element} did not{back}.")
 MOVED_BACK = {True: "; or the position of the delete was not adjusted for an insert that the author of the delete had not seen",
@@ -148,7 +175,7 @@ def causes_of(evidence: Evidence, weak: bool = False) -> list:
     """The causes; with `weak` of an editor that promises the weak list specification alone, as those do that send positions."""
     find = {"contents": of_contents, "position": of_position, "refused": lambda told: of_refusal(told, weak), "doubled": lambda _: [Cause("doubled", DOUBLED), Cause("same id", SAME_ID)],
             "accepted": lambda _: []}
-    return find[evidence.report["verdict"]](evidence)
+    return fitting(find[evidence.report["verdict"]](evidence), evidence.kind)
 
 
 def otherwise(condition: str, look: str) -> str:
@@ -339,7 +366,8 @@ def own_back(evidence: Evidence) -> list:
     is_one = not evidence.missing[1:]
     lost = OWN_LOST.format(missing=listed(evidence.missing, MOST_TOLD), is_="is" if is_one else "are", it="it" if is_one else "one of them") if evidence.missing else ""
     return [Cause("own back", OWN_BACK_AGAIN.format(came=named(came), back=listed(evidence.surplus, MOST_TOLD), replica=operation.replica,
-                                                    delete=listed(list(map(at, deletes)), MOST_TOLD), lost=lost))]
+                                                    delete=listed(list(map(at, deletes)), MOST_TOLD), lost=lost)
+                  + (OWN_ADJUSTED if is_possible("positions", evidence.kind) else SHOWN_AGAIN))]
 
 
 def healed(evidence: Evidence) -> list:
@@ -347,7 +375,12 @@ def healed(evidence: Evidence) -> list:
     if evidence.healed is None:
         return []
     before, after = evidence.healed
-    return [Cause("healed", HEALED.format(other=after.replica, before=at(before), after=at(after)))]
+    return [Cause("healed", HEALED.format(other=after.replica, before=at(before), after=at(after)) + unrecorded(evidence))]
+
+
+def unrecorded(evidence: Evidence) -> str:
+    """What may change a list though nothing came."""
+    return BY_SERVER if is_possible("positions", evidence.kind) else BY_ITSELF
 
 
 def vanished(evidence: Evidence) -> list:
@@ -356,7 +389,7 @@ def vanished(evidence: Evidence) -> list:
     before, receipts = evidence.before(operation)
     if not before or before[0].kind == "view" or receipts or operation.kind != "read" or evidence.otherwise[1]:
         return []
-    return [Cause("vanished", VANISHED.format(replica=operation.replica, before=at(before[0])))]
+    return [Cause("vanished", VANISHED.format(replica=operation.replica, before=at(before[0]), unrecorded=UNRECORDED[is_possible("positions", evidence.kind)]))]
 
 
 def replaced(evidence: Evidence) -> list:
@@ -414,8 +447,12 @@ def of_position(evidence: Evidence) -> list:
     gone = beside_gone(evidence, passed[0])
     if has_delete and is_younger_by_name(name, passed):
         return [*gone, Cause("mapping", mapped), *sorted_by]
-    return [*gone, Cause("numbers", NUMBERS.format(element=name, passed=listed(passed, MOST_TOLD), replica=operation.replica, theirs=theirs, causes=CLOCK[are_own])),
-            *sorted_by, Cause("mapping", otherwise("If neither fits your editor" if sorted_by else "If that does not fit your editor", mapped))]
+    numbers = Cause("numbers", NUMBERS.format(element=name, passed=listed(passed, MOST_TOLD), replica=operation.replica, theirs=theirs, causes=CLOCK[are_own]))
+    told = [cause for cause in [*gone, numbers, *sorted_by] if is_possible(cause.name, evidence.kind)]
+    if not told:
+        return [Cause("mapping", mapped)]
+    instead = "If that is not the cause" if evidence.kind else "If neither fits your editor" if sorted_by else "If that does not fit your editor"
+    return [*told, Cause("mapping", otherwise(instead, mapped))]
 
 
 def beside_gone(evidence: Evidence, passed: str) -> list:
@@ -455,7 +492,7 @@ def identifiers(insert: Operation, before: list, behind: list) -> list:
     if not before and not behind:
         return []
     names = joined([*before, insert.element, *behind])
-    return [Cause("identifiers", IDENTIFIERS.format(names=names, line=insert.line, element=insert.element))]
+    return [Cause("identifiers", IDENTIFIERS_OF.format(names=names, line=insert.line, element=insert.element))]
 
 
 def came_between(evidence: Evidence) -> list:
@@ -486,7 +523,8 @@ def sorted_alike(evidence: Evidence) -> Cause:
     names = evidence.elements[:MOST_MET]
     more = evidence.report["k"] - len(names)
     return Cause("identifiers", SORTED.format(two="the two" if evidence.report["k"] == 2 else "two of them",
-                                                names=joined(names + ([f"{more} more"] if more else []))))
+                                                names=joined(names + ([f"{more} more"] if more else [])),
+                                              circle=NO_ORDER if evidence.kind and evidence.report["k"] > 2 else ""))
 
 
 def of_refusal(evidence: Evidence, weak: bool) -> list:
@@ -494,21 +532,23 @@ def of_refusal(evidence: Evidence, weak: bool) -> list:
     if evidence.report["k"] > 2:
         return [*lost(evidence), *came_between(evidence), of_several(evidence), sorted_alike(evidence), Cause(ALONE, WEAK_ALONE_HOLDS.format(here=here(evidence)))]
     first, then = (evidence.recording.inserts[name][0] for name in evidence.elements)
+    weak = weak or evidence.kind == POSITIONS
     if not first.has_seen(then) and not then.has_seen(first):
         moved = moved_over(evidence)
         if weak and moved:
             told = (EITHER if are_put_at_once(first, then) else POSITIONS).format(first=first.element, then=then.element, **moved)
-            return [*turned_by_itself(evidence), *lost(evidence), *reordered(evidence), *came_between(evidence), Cause("concurrent", told), *beside_deleted(evidence)]
+            settled = settled_by_another(evidence, first, then) if evidence.kind else []
+            return [*turned_by_itself(evidence), *lost(evidence), *reordered(evidence), *came_between(evidence), *settled, Cause("concurrent", told), *beside_deleted(evidence)]
         settled = settled_by_another(evidence, first, then)
         concurrent = settled or [*behind_unknown(evidence, first, then),
-                                 Cause("concurrent", CONCURRENT.format(first=first.element, then=then.element, place=place_of_both(first, then)))]
+                                 Cause("concurrent", CONCURRENT.format(first=first.element, then=then.element, place=place_of_both(first, then), print=printed(evidence)))]
         is_told = evidence.between is not None or bool(concurrent[1:])
         causes = [concurrent, beside_deleted(evidence, is_told)]
         is_deleted_first = evidence.lost_neighbours and not are_put_at_once(first, then) and not is_told
         return [*turned_by_itself(evidence), *lost(evidence), *reordered(evidence), *came_between(evidence), *sum(causes[::-1] if is_deleted_first else causes, []), sorted_alike(evidence), *moved_insert(moved)]
     later, old = (first, then) if first.has_seen(then) else (then, first)
     moved = moved_over(evidence)
-    told = seen(evidence, later, old, "" if weak and moved else NUMBERS_OF_INSERTS)
+    told = seen(evidence, later, old, "" if weak and moved else OF_INSERTS[evidence.kind])
     told += put_meanwhile(evidence, later) or put_meanwhile(evidence, old)
     if weak and moved:
         return [*turned_by_itself(evidence), *lost(evidence), *shown_alone(evidence), *reordered(evidence), Cause("seen", told), *moved_insert(moved), *beside_deleted(evidence)]
@@ -552,7 +592,7 @@ def turned_by_itself(evidence: Evidence) -> list:
     if evidence.turned_by_itself is None:
         return []
     one, two, before, after = evidence.turned_by_itself
-    return [Cause("turned by itself", TURNED_BY_ITSELF.format(replica=after.replica, one=one, two=two, before=at(before), after=at(after)))]
+    return [Cause("turned by itself", TURNED_BY_ITSELF.format(replica=after.replica, one=one, two=two, before=at(before), after=at(after)) + unrecorded(evidence))]
 
 
 def settled_by_another(evidence: Evidence, first: Operation, then: Operation) -> list:
@@ -563,8 +603,15 @@ def settled_by_another(evidence: Evidence, first: Operation, then: Operation) ->
         found += [(before.index(name) + len(behind) - behind.index(name), name, one, other) for name in set(before).intersection(behind)
                   if is_deleted(evidence, name)]
     return [Cause("settled", SETTLED.format(first=one.element, then=other.element, middle=middle, op_first=f"{one.name}, line {one.line}",
-                                            op_then=f"{other.name}, line {other.line}"))
+                                            op_then=f"{other.name}, line {other.line}",
+                                            then_what=SETTLED_BY[evidence.kind].format(first=one.element, middle=middle, then=other.element)))
             for _, middle, one, other in sorted(found, key=lambda each: each[:2])[:1]]
+
+
+def printed(evidence: Evidence) -> str:
+    """What to print at the replicas of the two responses, where the kind of the editor is known; of one replica this tells nothing."""
+    one, other = (operation.replica for operation in evidence.operations)
+    return PRINT[evidence.kind].format(one=min(one, other), other=max(one, other)) if one != other else ""
 
 
 def here(evidence: Evidence) -> str:

@@ -37,10 +37,11 @@ class Overtaking(NamedTuple):
 
 class Evidence:
     """The operations that the verdict names, the elements that it is about, the names to mark in each response, and the
-    numbers of the lines that matter. The report may be that on a beginning of the recording, of so many lines."""
+    numbers of the lines that matter. The report may be that on a beginning of the recording, of so many lines. The kind of the editor is
+    the user's word, if there is one."""
 
-    def __init__(self, recording: Recording, report: dict, lines: int = 0):
-        self.recording, self.report = recording, report
+    def __init__(self, recording: Recording, report: dict, lines: int = 0, kind: str = ""):
+        self.recording, self.report, self.kind = recording, report, kind
         self.last_line = lines or len(recording.lines)
         self.operations, self.elements, self.marks, self.lines, self._before = [], [], {}, set(), {}
         self.missing, self.surplus, self.repeated = [], [], []

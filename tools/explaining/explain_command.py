@@ -14,6 +14,7 @@ from .debuggers import LANGUAGES, USUAL
 from .evidence import Evidence, Unexplained
 from .faulty_lines import about_fault
 from .files import MOST_BYTES, NO_SIDE, SIDE, Side, Unread, name_beside, read_both, shown, write_file, written_over
+from .kinds import ABOUT_KIND, HINT, KINDS, NoKind, hangs_on_kind, kind_asked
 from .page import page_of
 from .places import Beside, beside, placed_warnings, with_places
 from .programs import WAYS, Judged, NoProgram, find_program, is_weak_alone, judge, passes, report_of, report_text
@@ -45,6 +46,7 @@ def words_asked() -> argparse.Namespace:
                         f"are not in the trace; by default as TRACE{SIDE} says")
     parser.add_argument("--weak", action="store_true", help="the editor promises the weak list specification alone, as one with a server "
                         "that orders (Jupiter): a trace passes where that holds, though strong doesn't")
+    parser.add_argument("--editor", metavar="KIND", choices=list(KINDS), help=ABOUT_KIND)
     add_version(parser, NAME)
     return parser.parse_args()
 
@@ -136,13 +138,15 @@ def same_as(evidence: Evidence, told: Evidence) -> str:
 
 def explain(asked: argparse.Namespace, program: str, trace: bytes, side: Side, judged: Judged) -> None:
     known = beside(trace, side)
-    evidence = Evidence(Recording(trace.decode(), tuple(asked.delivered) or known.delivered), judged.report)
+    evidence = Evidence(Recording(trace.decode(), tuple(asked.delivered) or known.delivered), judged.report, kind=asked.editor)
     words, told = explained(evidence, report_of(program), asked.language or known.language or USUAL, asked.weak)
     is_alone = asked.weak and is_weak_alone(judged.report)
     refused = tuple(map(shown, asked.refused)) or known.refused
     warnings = placed_warnings(warnings_of(judged.report["verdict"], trace, side, is_alone, refused).all, known)
     words = with_places(with_warnings(words, warnings, refused), known)
     print(text_of(words), end="")
+    if not asked.editor and hangs_on_kind(words.causes):
+        print(f"\n{HINT}")
     if asked.html:
         write(asked.html, page_of(evidence, told, words, shown(asked.trace), report_text(program, trace), is_alone))
     if asked.svg and judged.report["verdict"] == "refused":
@@ -157,6 +161,10 @@ def main() -> None:
     asked = words_asked()
     check_outputs(asked, ["/dev/stdin"] if asked.trace == "-" else [asked.trace, asked.trace + SIDE, name_beside(asked.trace)])
     trace, side = read(asked.trace)
+    try:
+        asked.editor = kind_asked(asked.editor)
+    except NoKind as error:
+        fail(str(error))
     try:
         program = find_program(asked.program)
         check_outputs(asked, [program])

@@ -19,6 +19,8 @@ from .faulty_lines import ENTRIES
 from .files import SIDE, name_beside, shown, write_file, written_over
 from .judges import TooMany, judged_here
 from .junit import junit_of
+from .kinds import ABOUT_KIND, NoKind, kind_asked
+from .kinds import KINDS as KINDS_OF_EDITORS
 from .programs import WAYS, WEAK_ALONE, NoProgram, check_is_domepeeler, find_program
 from .recordings import FIRST_ENTRY
 from .rows import KINDS, NO_VERDICTS, Request, Row
@@ -52,6 +54,7 @@ def words_asked() -> argparse.Namespace:
                         "lack an insert or delete")
     parser.add_argument("--weak", action="store_true", help="the editor promises the weak list specification alone, as one with a server "
                         "that orders (Jupiter): let traces pass where that holds, though strong doesn't; these are counted by themselves")
+    parser.add_argument("--editor", metavar="KIND", choices=list(KINDS_OF_EDITORS), help=ABOUT_KIND)
     parser.add_argument("--junit", metavar="FILE", help="write the verdicts of all traces in JUnit's XML form, with explanations")
     add_version(parser, NAME)
     return parser.parse_args()
@@ -148,12 +151,12 @@ def jobs_of(asked: argparse.Namespace) -> int:
 
 
 def judged(asked: argparse.Namespace, program: str, files: list, jobs: int) -> list:
-    request = Request(program, asked.weak, bool(asked.junit))
     try:
+        request = Request(program, asked.weak, bool(asked.junit), kind_asked(asked.editor))
         if asked.sshlogin is None:
             return judged_here(request, files, jobs)
         return judged_there(request, files, asked.sshlogin, asked.jobs)
-    except (TooMany, NoParallel) as error:
+    except (NoKind, TooMany, NoParallel) as error:
         fail(str(error))
 
 

@@ -23,11 +23,13 @@ IN_WORDS = ["fault", "explanation"]  # of a row what is no field of its object i
 
 
 class Request(NamedTuple):
-    """What is asked of all traces: by which program, whether for the weak list specification alone, and whether to explain failures."""
+    """What is asked of all traces: by which program, whether for the weak list specification alone, and whether to explain failures; and
+    the kind of the editor, if it is named."""
 
     program: str
     weak: bool = False
     is_explained: bool = False
+    editor: str = ""
 
 
 class Answer(NamedTuple):
@@ -137,12 +139,12 @@ def placed(row: Row, request: Request, trace: bytes, known: Beside) -> Row:
     """The row of a failure with how many first lines fail already, and what is likely the cause; without where the program lies."""
     try:
         recording = Recording(trace.decode(), known.delivered)
-        whole = Evidence(recording, row.report)
+        whole = Evidence(recording, row.report, kind=request.editor)
         found = failing_beginning(whole, report_of(request.program), request.weak)
         if found is None:
             return row
         count, report = found
-        causes = causes_of(whole if report == row.report else Evidence(recording, report, count))
+        causes = causes_of(whole if report == row.report else Evidence(recording, report, count, request.editor))
         entry = recording.entries[count - FIRST_ENTRY]
         return row._replace(fails_at=count, causes=[cause.name for cause in causes], place=known.places.get(entry.line))
     except (Unexplained, NoProgram, ValueError, LookupError):
@@ -152,7 +154,7 @@ def placed(row: Row, request: Request, trace: bytes, known: Beside) -> Row:
 def explanation_of(row: Row, request: Request, trace: bytes, known: Beside) -> tuple:
     """What `explain` says of a failure, and the elements of a refusal; or its verdict alone, where the program lies, or memory runs out."""
     try:
-        evidence = Evidence(Recording(trace.decode(), known.delivered), row.report)
+        evidence = Evidence(Recording(trace.decode(), known.delivered), row.report, kind=request.editor)
         words, told = explained(evidence, report_of(request.program), known.language or USUAL, request.weak)
         about = listed(told.elements, MOST_STEPS) if told.report["verdict"] == "refused" else ""
         return text_of(with_places(with_warnings(words, row.warnings or [], known.refused), known)), about

@@ -8,16 +8,19 @@ named an operation that is gone. Replicas keep their numbers; operations are cou
 that of version 2 of the trace exactly where a view is kept, as the program's own writer has it."""
 from __future__ import annotations
 
+import re
 from bisect import bisect_left
 from collections import defaultdict, deque
 from collections.abc import Callable
 from typing import NamedTuple
 
-from .evidence import Evidence
-from .recordings import Operation, Receipt, Recording, place_asked
+from .causes import causes_of
+from .evidence import Evidence, Unexplained
+from .recordings import FIRST_ENTRY, Operation, Receipt, Recording, place_asked
 
 MOST_MET = 3  # deletes that an insert met
 MOST_BESIDE_LOST = 4  # changes beside a lost one
+LINE = re.compile(r"\bline (\d+)\b")  # of the trace, in the words of a cause
 
 
 class Small(NamedTuple):
@@ -138,9 +141,10 @@ def with_changes(recording: Recording, elements: set, kept: list) -> list:
     return list(kept)
 
 
-def candidates(evidence: Evidence) -> list:
-    """Projections that should have the verdict of the beginning that the evidence is on, the smallest first; the last one is all of it."""
-    recording, elements = evidence.recording, set(evidence.elements)
+def candidates(evidence: Evidence, named: list) -> list:
+    """Projections that should have the verdict of the beginning that the evidence is on, the smaller first, with the changes that are named
+    and their elements."""
+    recording, elements = evidence.recording, {*evidence.elements, *(change.element for change in named if change.element)}
     gone = [delete for pair in evidence.second_deletes[:1] for delete in pair]
     if evidence.report["verdict"] in ("refused", "contents"):
         gone += [delete for _, deletes in evidence.lost_neighbours for delete in deletes]
@@ -154,17 +158,30 @@ def candidates(evidence: Evidence) -> list:
     lost, later = beside_lost(evidence)
     elements.update(operation.element for operation in lost if operation.element)
     late = tuple({*later, *(found.own for found in overtakings if found.own)})
-    told = [*evidence.operations, *overtaking, *lost]
+    told = [*evidence.operations, *overtaking, *lost, *named]
     if evidence.report["verdict"] == "contents":  # the response before shows what was there; what has not arrived there may be what should have
         told += evidence.before(evidence.operations[0])[0]
         told += [change for element in evidence.elements for change in evidence.changes(element, evidence.operations[0])]
     if evidence.report["verdict"] != "doubled":
         told = with_changes(recording, elements, told)
+    return [Projection(recording, elements, fewer(told, evidence.operations + gone + overtaking + lost + named), misplaced, late),
+            Projection(recording, elements, told, misplaced, late)]
+
+
+def whole(evidence: Evidence) -> Projection:
+    """All of the beginning that the evidence is on."""
+    recording = evidence.recording
     every = [operation for stream in recording.streams for operation in stream if operation.line <= evidence.last_line]
-    names = elements.union(recording.inserts, recording.deletes, *(operation.response for operation in evidence.operations))
-    return [Projection(recording, elements, fewer(told, evidence.operations + gone + overtaking + lost), misplaced, late),
-            Projection(recording, elements, told, misplaced, late),
-            Projection(recording, names, every, misplaced)]
+    names = set(evidence.elements).union(recording.inserts, recording.deletes, *(operation.response for operation in evidence.operations))
+    return Projection(recording, names, every, evidence.operations[0] if evidence.report["verdict"] == "position" else None)
+
+
+def named_by(evidence: Evidence, causes: list) -> list:
+    """The operations of the lines that the first cause names; of a receipt, the one that it brings."""
+    entries = {entry.line: entry for entry in evidence.recording.entries if entry.line <= evidence.last_line}
+    lines = dict.fromkeys(int(line) for cause in causes[:1] for line in LINE.findall(cause.told))
+    found = [entries[line].seen if isinstance(entries[line], Receipt) else entries[line] for line in lines if line in entries]
+    return [operation for operation in found if operation not in evidence.operations]
 
 
 def beside_lost(evidence: Evidence) -> tuple:
@@ -200,12 +217,35 @@ def fewer(kept: list, named: list) -> list:
 
 
 def smallest(evidence: Evidence, judge: Callable) -> Small | None:
-    """The smallest of these traces whose report, by `judge`, has the verdict and the number of the one that the evidence is on. It should
-    be the first of them; but the program has the last word, and where it says otherwise more is kept."""
-    wanted = [evidence.report.get(key) for key in ("verdict", "k")]
-    for projection in candidates(evidence):
+    """The smallest of these traces whose report, by `judge`, has the verdict and the number of the one that the evidence is on, and which is
+    explained by the same cause first; where none is, the smallest with that verdict. It should be the first of them; but the program has the
+    last word, and where it says otherwise more is kept."""
+    causes, least = causes_of(evidence), None
+    named = named_by(evidence, causes)
+    for projection in [*candidates(evidence, []), *(candidates(evidence, named) if named else [])]:
         small = projection.small()
-        report = judge(small.text.encode())
-        if report is not None and [report.get(key) for key in ("verdict", "k")] == wanted:
+        report = same_verdict(small, evidence, judge)
+        if report is not None and (not causes or first_cause(small, report, evidence) == causes[0].name):
             return small
-    return None
+        least = least or (small if report is not None else None)
+    if least is not None:
+        return least
+    small = whole(evidence).small()
+    return small if same_verdict(small, evidence, judge) is not None else None
+
+
+def same_verdict(small: Small, evidence: Evidence, judge: Callable) -> dict | None:
+    """The report on a small trace, if it has the verdict and the number of the one that the evidence is on."""
+    report = judge(small.text.encode())
+    is_same = report is not None and all(report.get(key) == evidence.report.get(key) for key in ("verdict", "k"))
+    return report if is_same else None
+
+
+def first_cause(small: Small, report: dict, evidence: Evidence) -> str:
+    """The name of the cause that is told first of a small trace; empty where there is none."""
+    delivered = tuple((at, at) for at, line in enumerate(small.lines, FIRST_ENTRY) if evidence.recording.is_delivered(line))
+    try:
+        causes = causes_of(Evidence(Recording(small.text, delivered), report, kind=evidence.kind))
+    except Unexplained:
+        return ""
+    return causes[0].name if causes else ""
