@@ -14,6 +14,7 @@ from typing import NamedTuple
 
 SECONDS = 60
 SHORT_BYTES = 4096
+os.environ.pop("DOMEPEELER_EDITOR", None)  # the developer's own, by which the tools' words change
 
 
 class Ended(NamedTuple):

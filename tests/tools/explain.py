@@ -628,6 +628,11 @@ PLANTED = {
     "none_behind_server": (60, 0, []),
 }
 
+# Where the kind of the editor is known, other words that name a planted bug; and by kind the causes, by name, that only other kinds have.
+OF_KIND = {"mapping": ["not adjusted for the delete", "not adjusted for the insert"]}
+OF_OTHERS = {"positions": {"identifiers", "between", "behind unknown", "numbers", "lost neighbour", "beside gone", "beside deleted"},
+             "neighbours": {"identifiers", "positions", "weak alone", "rebased"}}
+
 # By planted bug by which changes are lost: how many seeds, how many sessions fail at least, and of how many of these the words name one.
 LOST_MESSAGES = {"lost": (150, 60, 1.0), "dropped": (150, 80, 0.97)}
 
@@ -1543,7 +1548,7 @@ def planted_bugs(tally: Tally, program: str, folder: str) -> None:
     Without a bug all are accepted, but that behind a server strong may fail where weak holds."""
     told_of = {}
     for bug, (seeds, least, phrases) in PLANTED.items():
-        failing, named, small_named = 0, 0, 0
+        failing, named, small_named, alike = 0, 0, 0, 0
         told_of[bug] = []
         for seed in range(seeds):
             text = planted.session(bug, seed, 16).text()
@@ -1554,6 +1559,11 @@ def planted_bugs(tally: Tally, program: str, folder: str) -> None:
             words, told = explained(Evidence(Recording(text), report), report_of(program))
             if told.report["weak"] and bug in planted.BEHIND_SERVER:  # its beginning is as without a bug
                 continue
+            kind = "positions" if bug in planted.BEHIND_SERVER else "neighbours"
+            fitting, _ = explained(Evidence(Recording(text), report, kind=kind), report_of(program))
+            tally.check(f"planted: {bug} {seed}: named where the editor's kind is, and nothing of other kinds",
+                        any(phrase in text_of_words(fitting) for phrase in [*phrases, *OF_KIND.get(bug, [])]) and not OF_OTHERS[kind].intersection(fitting.causes)
+                        and len(fitting.causes) <= len(words.causes) + 1, text_of_words(fitting))
             said = text_of_words(words)
             told_of[bug].append(said)
             is_named = any(phrase in said for phrase in phrases)
@@ -1562,7 +1572,9 @@ def planted_bugs(tally: Tally, program: str, folder: str) -> None:
             report = report_of(program)(small.encode())
             again, _ = explained(Evidence(Recording(small), report), report_of(program))
             failing, named, small_named = failing + 1, named + is_named, small_named + any(phrase in text_of_words(again) for phrase in phrases)
+            alike += words.causes[:1] == again.causes[:1]
         tally.check(f"planted: {bug}: how many fail, and are named", failing >= least and named == failing, (failing, named))
+        tally.check(f"planted: {bug}: small traces have the same first cause", alike >= 0.9 * failing, (failing, alike))
         tally.check(f"planted: {bug}: named by most small traces too", small_named >= 0.8 * failing, (failing, small_named))
         print(f"{bug}: {failing} of {seeds} sessions fail, the words name the cause of {named}, those of small traces of {small_named}")
     in_gallery(tally, [told_of[bug] for bug, (_, _, phrases) in PLANTED.items() if phrases] + [
@@ -1574,6 +1586,38 @@ def planted_bugs(tally: Tally, program: str, folder: str) -> None:
                 (ROOT / "examples" / "whole_states_lost_text.trace").read_text(), states)
     tally.check("planted: by its own words", done.returncode == 0 and b"overtook it in line" in got.out and b"\n\nYour notes\n  planted.py overtaking 1\n\nThe list" in got.out,
                 (done, got))
+
+
+def kinds(tally: Tally, program: str, folder: str) -> None:
+    """The kind of the editor, which a user names once: the words leave out what such an editor can't have, and say so where none is named."""
+    path = Path(folder, "kinds.trace")
+    path.write_text(text_of(2, "0 ins a 0 : a|1 ins b 0 : b|0 recv 1 1|1 recv 0 1|0 read : a b|1 read : b a"))
+    hint = b"\nName the editor's kind, by --editor or DOMEPEELER_EDITOR, and the words leave out what it can't have: neighbours ("
+    look = {"": "If the list is sorted by position identifiers, look at", "neighbours": "(neighbour, number, author)", "tree": "(parent, side, number, author)",
+            "identifiers": "Print both identifiers", "positions": "Client and server must adjust alike"}
+    for kind, wanted in look.items():
+        got = explain(program, [*(["--editor", kind] if kind else []), str(path)])
+        named = os.environ | ({"DOMEPEELER_EDITOR": kind} if kind else {})
+        same = subprocess.run([sys.executable, EXPLAIN, "--program", program, str(path)], capture_output=True, env=named)
+        told = got.out.decode()
+        tally.check(f"kinds: {kind or 'none'}: the words", "Look at the order of concurrent inserts" in told and [phrase for phrase in look.values() if phrase in told] == [wanted]
+                    and got.status == 1, told)
+        tally.check(f"kinds: {kind or 'none'}: a word on kinds where none is named", (hint in got.out) == (not kind), told)
+        tally.check(f"kinds: {kind or 'none'}: by the variable", (same.returncode, same.stdout, same.stderr) == (1, got.out, got.err), same)
+    for words, variable in (["--editor", "rga"], ""), ([], "rga"), ([], " tree"):
+        got = subprocess.run([sys.executable, EXPLAIN, "--program", program, *words, str(path)], capture_output=True, env=os.environ | {"DOMEPEELER_EDITOR": variable})
+        many = subprocess.run([sys.executable, ROOT / "tools" / "judge_many", "--program", program, *words, str(path)], capture_output=True,
+                              env=os.environ | {"DOMEPEELER_EDITOR": variable})
+        for done in got, many:
+            tally.check(f"kinds: {words} {variable!r}: none of that name", done.returncode == 2 and not done.stdout and b"neighbours" in done.stderr and b"positions" in done.stderr
+                        and b"Traceback" not in done.stderr, done)
+    many = subprocess.run([sys.executable, ROOT / "tools" / "judge_many", "--program", program, "--editor", "identifiers", "--json", "--junit", f"{folder}/kinds.xml", str(path)],
+                          capture_output=True)
+    explained_there = Path(folder, "kinds.xml").read_text()
+    tally.check("kinds: of many", many.returncode == 1 and "rint both identifiers" in explained_there and "If the list is sorted" not in explained_there
+                and json.loads(many.stdout)["causes"] == ["concurrent", "identifiers"], (many, explained_there))
+    path.write_text(text_of(1, "0 ins a 0 : a"))
+    tally.check("kinds: nothing of an accepted trace", hint not in explain(program, [str(path)]).out)
 
 
 def lost_messages(tally: Tally, program: str, folder: str, bug: str, seeds: int, least: int, share: float) -> list:
@@ -2200,6 +2244,7 @@ def main() -> None:
     scripts_end(tally)
     drawn(tally, program)
     with tempfile.TemporaryDirectory() as folder:
+        kinds(tally, program, folder)
         planted_bugs(tally, program, folder)
         updates_of_several(tally, program)
     with tempfile.TemporaryDirectory() as folder:

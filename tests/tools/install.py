@@ -30,11 +30,11 @@ COMPLETED = [
     (["domepeeler", "verdict", "--workers", "1"], {"1", "16"}),
     (["domepeeler", "live", "--"], {"--workers", "--help"}),
     (["domepeeler-explain", "--s"], {"--small", "--svg"}),
-    (["domepeeler-explain", "--"], {"--html", "--small", "--svg", "--language", "--delivered", "--refused", "--weak", "--program",
+    (["domepeeler-explain", "--"], {"--html", "--small", "--svg", "--language", "--delivered", "--refused", "--weak", "--editor", "--program",
                                      "--version", "--help"}),
     (["domepeeler-explain", "--language", "r"], {"rust"}),
     (["domepeeler-judge-many", "--j"], {"--json", "--junit", "--jobs"}),
-    (["domepeeler-judge-many", "--"], {"--json", "--failing", "--unequal", "--weak", "--junit", "--jobs", "--sshlogin", "--program",
+    (["domepeeler-judge-many", "--"], {"--json", "--failing", "--unequal", "--weak", "--editor", "--junit", "--jobs", "--sshlogin", "--program",
                                         "--version", "--help"}),
 ]
 

@@ -132,16 +132,16 @@ BEHIND_DELETED = " Look also at inserts beside deleted elements: where [{behind}
 CONCURRENT = ("Look at the order of concurrent inserts: {first} and {then} were inserted{place} without knowing of each other, and were shown "
               "in two different orders. Use a rule that gives the same order everywhere (such as the replicas' numbers), also in short cuts, as for "
               "appending; not the order in which each replica received them.{print}")
-PRINT = {  # what tells the replica that sends from the one that applies
+PRINT = {  # what tells a fault of what is sent from one of how it is applied
     "": "", POSITIONS: " Client and server must adjust alike, and each change once.",
-    NEIGHBOURS: " To see where it goes wrong, print what replica {one} and replica {other} keep of both: neighbour, number, author. Where that differs, look at what is sent and what "
-                "changes it later; where it is the same, at how the place of an incoming insert is found.",
-    TREE: " To see where it goes wrong, print what replica {one} and replica {other} keep of both: parent, side, number, author. Where that differs, look at what is sent and what "
-          "changes it later; where it is the same, at how children are ordered, and how the tree is walked.",
-    IDENTIFIERS: " To see where it goes wrong, print both identifiers at replica {one} and replica {other}. Where they differ between replicas, look at what is sent; where they are equal to "
-                 "each other, at how they are made; else at how they are compared, and at the search for a place.",
+    NEIGHBOURS: " Print what replicas {one} and {other} keep of both (neighbour, number, author): if it differs, look at what is sent and what changes it later; if not, at how the "
+                "place of an incoming insert is found.",
+    TREE: " Print what replicas {one} and {other} keep of both (parent, side, number, author): if it differs, look at what is sent and what changes it later; if not, at how children "
+          "are ordered, and how the tree is walked.",
+    IDENTIFIERS: " Print both identifiers at replicas {one} and {other}: if one differs between these, look at what is sent; if the two are equal, at how they are made; else at how they are "
+                 "compared, and at the search for a place.",
 }
-POSITIONS = ("Look at how a position is adjusted where a change arrives: the position of {element} was perhaps not adjusted for {changes}, which "
+MOVED_OR_TIED = ("Look at how a position is adjusted where a change arrives: the position of {element} was perhaps not adjusted for {changes}, which "
              "replica {replica} knew and the author of {element} did not{back}. Or look at the order of concurrent inserts: {first} and {then} were inserted without knowing of each "
              "other, and were shown in two different orders. Use a rule that gives the same order everywhere (such as the replicas' numbers). Client and server must adjust alike, and each change once.")
 EITHER = ("Look at the order of concurrent inserts: {first} and {then} were inserted at one place without knowing of each other, and were shown in two "
@@ -536,7 +536,7 @@ def of_refusal(evidence: Evidence, weak: bool) -> list:
     if not first.has_seen(then) and not then.has_seen(first):
         moved = moved_over(evidence)
         if weak and moved:
-            told = (EITHER if are_put_at_once(first, then) else POSITIONS).format(first=first.element, then=then.element, **moved)
+            told = (EITHER if are_put_at_once(first, then) else MOVED_OR_TIED).format(first=first.element, then=then.element, **moved)
             settled = settled_by_another(evidence, first, then) if evidence.kind else []
             return [*turned_by_itself(evidence), *lost(evidence), *reordered(evidence), *came_between(evidence), *settled, Cause("concurrent", told), *beside_deleted(evidence)]
         settled = settled_by_another(evidence, first, then)

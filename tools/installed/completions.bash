@@ -6,11 +6,12 @@ _domepeeler() {
         --workers) COMPREPLY=($(compgen -W "1 2 4 8 16 32 64" -- "$word")); return ;;
         --jobs | --sshlogin | --delivered | --refused) return ;;
         --language) COMPREPLY=($(compgen -W "python javascript rust c emacs-lisp" -- "$word")); return ;;
+        --editor) COMPREPLY=($(compgen -W "neighbours tree identifiers positions" -- "$word")); return ;;
         --program | --html | --small | --svg | --junit) compopt -o filenames; mapfile -t COMPREPLY < <(compgen -f -- "$word"); return ;;
     esac
     case ${COMP_WORDS[0]##*/} in
-        domepeeler-explain) options="--html --small --svg --language --delivered --refused --weak --program --version --help" ;;
-        domepeeler-judge-many) options="--json --failing --unequal --weak --junit --jobs --sshlogin --program --version --help" ;;
+        domepeeler-explain) options="--html --small --svg --language --delivered --refused --weak --editor --program --version --help" ;;
+        domepeeler-judge-many) options="--json --failing --unequal --weak --editor --junit --jobs --sshlogin --program --version --help" ;;
         *)
             if ((COMP_CWORD == 1)); then
                 COMPREPLY=($(compgen -W "verdict cert verify live --help --version" -- "$word"))

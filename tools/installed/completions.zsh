@@ -11,6 +11,7 @@ _domepeeler() {
                 '*--refused[what a recorder says of calls that it refused]:words:' \
                 '--language[of the recorder]:language:(python javascript rust c emacs-lisp)' \
                 '--weak[let a trace pass where weak holds]' \
+                '--editor[the kind of the editor]:kind:(neighbours tree identifiers positions)' \
                 '--program[the program that judges]:program:_files' \
                 '--version[show the version]' '--help[show the help]' '1:trace:_files'
             return ;;
@@ -18,6 +19,7 @@ _domepeeler() {
             _arguments '--json[one JSON object a trace]' '--failing[list only the traces that are not accepted]' \
                 '--unequal[let traces fail whose replicas end unequal]' \
                 '--weak[let traces pass where weak holds]' \
+                '--editor[the kind of the editor]:kind:(neighbours tree identifiers positions)' \
                 '--junit[write the verdicts as JUnit XML]:file:_files' '--jobs[how many at a time]:number:' \
                 '--sshlogin[machines to judge on]:hosts:_hosts' '--program[the program that judges]:program:_files' \
                 '--version[show the version]' '--help[show the help]' '*:folder:_files'
