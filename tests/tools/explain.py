@@ -61,7 +61,7 @@ def stop(line: int, doing: str, *others: int, together: int = 0) -> str:
     before = ", ".join(f"line {other}" for other in others)
     doing += f"; if nothing is wrong there, stop at {'another arrival' if len(others) == 1 else 'other arrivals'} ({before})" if others else ""
     asked = f"if recording.lines() == {line - 1}: breakpoint()"
-    where = "where your code reads the list" if "reads the list" in doing else "where your code begins to apply a change, local or remote"
+    where = "where your code reads the list" if "reads the list" in doing else "where your code has the editor apply a change, local or remote"
     or_first = f"; or {together - 1}, if one call wrote lines {together} to {line}" if together else ""
     asked = f"if recording.lines() in ({together - 1}, {line - 1}): breakpoint()" if together else asked
     where += f" (the recording has {line - 1} lines then{or_first})"
@@ -743,7 +743,7 @@ Only `delivered` (line 10) says that 0.2 (line 6) arrived at replica 1; no respo
 0.3 (line 7), made later, perhaps waits for it); or `delivered` was called too early. Look at what keeps changes waiting.
 
 In a debugger
-stop before line 6 of the trace, where replica 0 inserts b, and follow 0.2 to replica 1. In Python, put this where your code begins to apply a change, local or remote (the recording has 5 lines then): \
+stop before line 6 of the trace, where replica 0 inserts b, and follow 0.2 to replica 1. In Python, put this where your code has the editor apply a change, local or remote (the recording has 5 lines then): \
 if recording.lines() == 5: breakpoint()
 
 The list specifications

@@ -23,7 +23,7 @@ FOR_TWO = {
     "emacs-lisp": "(when (memq (domepeeler-lines recording) '({} {})) (debug))",
 }
 USUAL = "python"  # of a trace of which nothing says who recorded it
-BEGINS, READS = "where your code begins to apply a change, local or remote", "where your code reads the list"
+BEGINS, READS = "where your code has the editor apply a change, local or remote", "where your code reads the list"
 
 
 def stop_of(evidence: Evidence) -> tuple:
