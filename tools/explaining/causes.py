@@ -101,9 +101,11 @@ NUMBERS = ("If the editor decides by numbers (a clock, ids) which of two inserts
            "{passed}, which replica {replica} had already. The number that {element} has must be greater than {theirs}; perhaps it is not. Usual causes: "
            "{causes}ids are compared as text, so 10 comes before 9.")
 CLOCK = {True: "the clock does not advance with each insert; ", False: "the clock does not advance when changes arrive; the replica's number is compared before the clock; "}
-BESIDE_DELETED = ("If inserts find their place by a neighbour, look at inserts beside deleted elements: the lines above name {which}. If replicas throw "
+BESIDE_DELETED = ("If inserts find their place by a neighbour, look at inserts beside deleted elements: {which}. If replicas throw "
                   "deleted elements away, nothing says then where the insert belongs; if they keep them, the search for its place must treat them like "
                   "elements that are shown.")
+ARRIVED_BESIDE = "{element} came to replica {replica} in line {line}, where its {neighbours} {gone} had been deleted"
+HIDDEN_BESIDE = "{element} was put beside {gone}, which {were} deleted before {operation}"
 SEVERAL_DELETED = ("Look at positions beside deleted elements: any {fewer} of {named} fit together, all {k} don't; perhaps an insert lost its place "
                    "because its neighbour was deleted meanwhile. {next}")
 NEXT = "Look first at where replica {replica} placed {element} in line {line}, beside {gone}, which had been deleted there."
@@ -503,14 +505,17 @@ def came_between(evidence: Evidence) -> list:
     return [Cause("between", BETWEEN.format(operation=at(operation), other=other, element=element, behind=behind) + PAST.format(other=other, behind=behind, there=" there"))]
 
 
-def behind_unknown(evidence: Evidence, first: Operation, then: Operation) -> list:
-    """Of two concurrent inserts one that was put directly behind what the other's author did not know, where no response shows more of that."""
+def behind_unknown(evidence: Evidence, first: Operation, then: Operation) -> tuple:
+    """Of two concurrent inserts one that was put directly behind what the other's author did not know, where no response shows more of that; and
+    whether that was deleted where the insert arrived, which is told by itself."""
     for one, other in ((first, then), (then, first)) if evidence.between is None else ():
         behind = neighbours(one)[0]
         if behind in evidence.recording.inserts and not other.has_seen(evidence.recording.inserts[behind][0]):
-            return [Cause("behind unknown", BEHIND_UNKNOWN.format(element=one.element, behind=behind, other=other.element) + PAST.format(other=other.element, behind=behind, there="")
-                          + BEHIND_DELETED.format(element=one.element, behind=behind) * is_deleted(evidence, behind))]
-    return []
+            is_gone = any(arrival.insert is one and behind in [delete.element for delete in deletes] for arrival, deletes in evidence.lost_neighbours)
+            told = BEHIND_UNKNOWN.format(element=one.element, behind=behind, other=other.element) + PAST.format(other=other.element, behind=behind, there="")
+            told += BEHIND_DELETED.format(element=one.element, behind=behind) * (is_deleted(evidence, behind) and not is_gone)
+            return [Cause("behind unknown", told)], is_gone
+    return [], False
 
 
 def is_deleted(evidence: Evidence, name: str) -> bool:
@@ -540,9 +545,9 @@ def of_refusal(evidence: Evidence, weak: bool) -> list:
             settled = settled_by_another(evidence, first, then) if evidence.kind else []
             return [*turned_by_itself(evidence), *lost(evidence), *reordered(evidence), *came_between(evidence), *settled, Cause("concurrent", told), *beside_deleted(evidence)]
         settled = settled_by_another(evidence, first, then)
-        concurrent = settled or [*behind_unknown(evidence, first, then),
-                                 Cause("concurrent", CONCURRENT.format(first=first.element, then=then.element, place=place_of_both(first, then), print=printed(evidence)))]
-        is_told = evidence.between is not None or bool(concurrent[1:])
+        behind, is_gone = behind_unknown(evidence, first, then)
+        concurrent = settled or [*behind, Cause("concurrent", CONCURRENT.format(first=first.element, then=then.element, place=place_of_both(first, then), print=printed(evidence)))]
+        is_told = evidence.between is not None or bool(concurrent[1:]) and not is_gone
         causes = [concurrent, beside_deleted(evidence, is_told)]
         is_deleted_first = evidence.lost_neighbours and not are_put_at_once(first, then) and not is_told
         return [*turned_by_itself(evidence), *lost(evidence), *reordered(evidence), *came_between(evidence), *sum(causes[::-1] if is_deleted_first else causes, []), sorted_alike(evidence), *moved_insert(moved)]
@@ -636,7 +641,13 @@ def beside_deleted(evidence: Evidence, is_told_otherwise: bool = False) -> list:
     """Of inserts beside deleted elements; where the order is told otherwise, of those alone that came when these were deleted."""
     if not evidence.lost_neighbours and (is_told_otherwise or not evidence.hidden_neighbours):
         return []
-    which = "an insert that arrived where its neighbour had been deleted" if evidence.lost_neighbours else "an insert whose neighbour was deleted later"
+    if evidence.lost_neighbours:
+        arrival, deletes = evidence.lost_neighbours[-1]
+        which = ARRIVED_BESIDE.format(element=arrival.insert.element, replica=arrival.receipt.replica, line=arrival.receipt.line, gone=joined([delete.element for delete in deletes]),
+                                      neighbours="neighbours" if deletes[1:] else "neighbour")
+    else:
+        insert, names, operation = evidence.hidden_neighbours[-1]
+        which = HIDDEN_BESIDE.format(element=insert.element, gone=joined(names), were="were" if names[1:] else "was", operation=at(operation))
     return [Cause("beside deleted", BESIDE_DELETED.format(which=which))]
 
 
