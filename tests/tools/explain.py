@@ -101,7 +101,10 @@ WORDS = [
      "found at: position 1||Where to look|Replica 0 itself changed the order of elements that it had shown: a before b in 0.2 (line 4), b before a in 0.3 (line 5). "
      "Between the two it inserted c. Look at what decides which of b and a comes first: once both are inserted, it must never change, "
      "whatever is inserted, deleted or received later.|If that is not the cause: look at how the position that a user sees is mapped to a place in the editor's "
-     "own list; and at whether the recorder writes the position that was asked for." + stop(5, "replica 0 inserts c")),
+     "own list; and at whether the recorder writes the position that was asked for." + stop(5, "replica 0 inserts c", together=3)),
+    ("a local delete whose change names another element than the one that is gone", 2, "0 ins a 0 : a|1 recv 0 1|1 ins b 1 : a b|1 del a : b|1 del c :",
+     "Where to look|1.3 (line 7) says that replica 1 deleted c, which 1.2 (line 6) does not show, and no line inserts; b vanished. Look at how a local delete makes the ids of "
+     "what it deletes, which its change carries; or at where the recorder takes them from." + stop(7, "replica 1 deletes c", together=6)),
     ("deletes that come together, of which the first finds nothing", 2, "0 ins a 0 : a|0 ins b 1 : a b|0 ins c 2 : a b c|1 recv 0 3|1 read : a b c|1 del a : b c|"
      "0 del a : b c|0 del b : c|1 recv 0 5|1 read : b c", "Where to look|"
      "0.4 (line 9) and 0.5 (line 10) were made one after the other, and came to replica 1 together; there a was deleted already, by 1.2 (line 8), and b is "
@@ -110,11 +113,11 @@ WORDS = [
      "before the change is applied. Or it deleted another element, one that was already deleted there: look at how a replica that applies a delete finds the "
      "element (is the whole id compared?)." + stop(11, "replica 1 applies 0.5")),
     ("a delete that takes its neighbour along", 2, "0 ins a 0 : a|0 ins b 1 : a b|0 ins c 2 : a b c|1 recv 0 3|1 read : a b c|0 del a : b c|1 recv 0 4|1 read : c",
-     "Where to look|It looks as if 0.4 (line 8), applied at replica 1, deleted b along with a: b stood there in 1.1 (line 7), and no change that has come since deletes "
-     "it. Look at where the replica begins to delete there, and at how many elements it deletes." + stop(9, "replica 1 applies 0.4")),
+     "Where to look|It looks as if 0.4 (line 8), applied at replica 1, deleted b along with a: b stood there in 1.1 (line 7), and no delete of it "
+     "has come there. Look at where the replica begins to delete there, and at how many elements it deletes." + stop(9, "replica 1 applies 0.4")),
     ("a delete that takes two others along at its author's", 1, "0 ins a 0 : a|0 ins b 1 : a b|0 ins c 2 : a b c|0 del a :",
-     "Where to look|It looks as if 0.4 (line 6), applied at replica 0, deleted b and c along with a: b and c stood there in 0.3 (line 5), and no change that has come since deletes "
-     "them. Look at where the replica begins to delete there, and at how many elements it deletes." + stop(6, "replica 0 deletes a")),
+     "Where to look|It looks as if 0.4 (line 6) deleted b and c along with a: b and c stood there in 0.3 (line 5), and no delete of them has come "
+     "there. Look at where the replica begins to delete there, and at how many elements it deletes." + stop(6, "replica 0 deletes a")),
     ("an insert that stands too far behind, though its name has the greater number", 1, "0 ins e1-0 0 : e1-0|0 ins e2-0 1 : e1-0 e2-0|0 del e1-0 : e2-0|0 ins e4-0 0 : e2-0 e4-0",
      "asked for: position 0; the answer has [e2-0] there|found at: position 1||Where to look|"
      "Look at how the position that a user sees is mapped to a place in the editor's own list (deleted elements may still stand there); and "
@@ -125,7 +128,7 @@ WORDS = [
      "[a] before [b]: line 5 of the trace, 1.1: replica 1 inserted b at position 1, answered [a] [b]|"
      "[b] before [a]: line 7, 0.2: replica 0 read the list, answered [b] [a]|"
      "a arrived at replica 1 in line 4, b at replica 0 in line 6|"
-     "Look at where replica 0 placed [b], which came there in line 6: its author, replica 1, had [a] already when it inserted [b] (1.1, line 5), and put it behind [a]. That order must hold everywhere. Often the clock that decides between inserts does not advance when changes arrive, or the neighbour is not found; or elements are stored in runs (blocks of several), and a run is split at a wrong place: deleted elements count too.|"
+     "When replica 1 inserted [b] (1.1, line 5), it had [a] already (since line 4), and put [b] behind it. That order must hold everywhere, but 0.2 (line 7) shows [b] before [a]. Look at what that insert says, as replica 1 made it, and at where replica 0 placed it in line 6. Often the clock that decides between inserts does not advance when changes arrive, or not past the last element of a paste; or the neighbour is not found; or elements are stored in runs (blocks of several), and a run is split at a wrong place.|"
      "If the list is sorted by position identifiers, print those of a and b at line 5. If they do not rise in this order, look at how the "
      "one of b was made; if they do, at how identifiers are compared (numbers must not be compared as text)." + stop(6, "replica 0 applies 1.1", 4)),
     ("three-way cycle", 3, THREE_WAY,
@@ -150,7 +153,7 @@ WORDS = [
      "c arrived at replica 0 in line 6, d at replica 1 in line 10||Where to look|"
      "If inserts find their place by a neighbour, look at inserts beside deleted elements: d "
      "came to replica 1 in line 10, where its neighbour b had been deleted. If replicas throw deleted elements away, nothing says then where the insert belongs; if they keep them, the search for its place must treat them like elements that are shown.|"
-     "Look at where replica 1 placed [d], which came there in line 10: its author, replica 0, had [c] already when it inserted [d] (0.3, line 9), and put it before [c]. That order must hold everywhere. Often the clock that decides between inserts does not advance when changes arrive, or the neighbour is not found; or elements are stored in runs (blocks of several), and a run is split at a wrong place: deleted elements count too.|"
+     "When replica 0 inserted [d] (0.3, line 9), it had [c] already (since line 6), and put [d] before it. That order must hold everywhere, but 1.3 (line 11) shows [d] behind [c]. Look at what that insert says, as replica 0 made it, and at where replica 1 placed it in line 10. Often the clock that decides between inserts does not advance when changes arrive, or not past the last element of a paste; or the neighbour is not found; or elements are stored in runs (blocks of several), and a run is split at a wrong place: deleted elements count too.|"
      "If the list is sorted by position identifiers, print those of b, d and c at line 9. If they do not rise in this order, look at how "
      "the one of d was made; if they do, at how identifiers are compared (numbers must not be compared as text).|If the editor "
      "sends positions, the position of d was perhaps not adjusted for the delete of b by 1.2 (line 8), which replica 1 knew and the author of d did not." + stop(10, "replica 1 applies 0.3", 6)),
@@ -357,7 +360,7 @@ WORDS = [
      "finds the element. a was already deleted there, by 1.2 (line 8), so look also at what the editor does with a delete whose element is gone." + stop(9, "replica 1 applies 0.3")),
     ("a delete of one's own after another's", 2, "0 ins a 0 : a|0 ins b 1 : a b|1 recv 0 2|1 del a : b|0 recv 1 1|0 del a :",
      "contents 0.3: this response lacks one element that replica 0 should have had by then.|"
-     "It looks as if 0.3 (line 8), applied at replica 0, deleted b instead of a: look at how a replica that applies a delete "
+     "It looks as if 0.3 (line 8) deleted b instead of a: look at how a replica that applies a delete "
      "finds the element. a was already deleted there, by 1.1 (line 6), so look also at what the editor does with a delete whose element is gone." + stop(7, "replica 0 applies 1.1")),
     ("an element lost whose neighbour was deleted where it arrived", 2, "0 ins a 0 : a|0 ins b 1 : a b|1 recv 0 2|1 read : a b|0 ins c 1 : a c b|1 del a : b|"
      "1 recv 0 3|1 read : b",
@@ -404,7 +407,7 @@ WORDS = [
      "writes the name of the element that was deleted.|If the editor sends positions, the position of 1.2 was perhaps not adjusted for the insert of c by 0.3 (line 8), which the author of 1.2 had not seen." + stop(9, "replica 0 applies 1.2")),
     ("an insert that another one at its place has shifted", 2, "0 ins b 0 : b|0 ins c 0 : c b|1 ins a 0 : a|1 recv 0 1|1 read : a b|1 recv 0 2|"
      "1 read : a b c",
-     "Look at where replica 1 placed [c], which came there in line 8: its author, replica 0, had [b] already when it inserted [c] (0.2, line 4), and put it before [b]. That order must hold everywhere. Often the clock that decides between inserts does not advance when changes arrive, or the neighbour is not found; or elements are stored in runs (blocks of several), and a run is split at a wrong place: deleted elements count too. At the place of c also "
+     "When replica 0 inserted [c] (0.2, line 4), it had [b] already, and put [c] before it. That order must hold everywhere, but 1.3 (line 9) shows [c] behind [b]. Look at what that insert says, as replica 0 made it, and at where replica 1 placed it in line 8. Often the clock that decides between inserts does not advance when changes arrive, or not past the last element of a paste; or the neighbour is not found; or elements are stored in runs (blocks of several), and a run is split at a wrong place. At the place of c also "
      "a was inserted, and neither author had the other's insert. Look also at which of them comes first." + stop(8, "replica 1 applies 0.2", 6)),
     ("a receipt that comes before the change is applied", 2, "0 ins a 0 : a|1 recv 0 1|1 read : a|0 ins b 1 : a b|0 del a : b|1 recv 0 3|1 read : a",
      "contents 1.2: this response lacks one element that replica 1 should have had by then, and has one element that should not be there.||"
@@ -460,7 +463,7 @@ WORDS = [
      "by then|it lacks a||The list specifications|by the whole trace, strong and weak fail"),
     ("a delete that meets an insert which did not know it", 2, "0 ins a 0 : a|0 ins b 1 : a b|0 ins c 2 : a b c|1 recv 0 3|1 read : a b c|1 del a : b c|"
      "0 ins d 2 : a b d c|1 recv 0 4|1 read : b c d",
-     "Look at where replica 1 placed [d], which came there in line 10: its author, replica 0, had [c] already when it inserted [d] (0.4, line 9), and put it before [c]. That order must hold everywhere. Often the clock that decides between inserts does not advance when changes arrive, or the neighbour is not found; or elements are stored in runs (blocks of several), and a run is split at a wrong place: deleted elements count too.|If the editor "
+     "When replica 0 inserted [d] (0.4, line 9), it had [c] already, and put [d] before it. That order must hold everywhere, but 1.3 (line 11) shows [d] behind [c]. Look at what that insert says, as replica 0 made it, and at where replica 1 placed it in line 10. Often the clock that decides between inserts does not advance when changes arrive, or not past the last element of a paste; or the neighbour is not found; or elements are stored in runs (blocks of several), and a run is split at a wrong place: deleted elements count too.|If the editor "
      "sends positions, the position of d was perhaps not adjusted for the delete of a by 1.2 (line 8), which replica 1 knew and the author of d did not." + stop(10, "replica 1 applies 0.4", 6)),
     ("a delete that becomes nothing beside an insert that its author did not know", 2, "0 ins a 0 : a|1 recv 0 1|1 read : a|0 del a :|"
      "1 ins b 0 : b a|1 recv 0 2|1 read : b a",
@@ -513,8 +516,8 @@ WRONG_DELETES = [
     (2, "0 ins a 0 : a|0 ins b 1 : a b|1 recv 0 2|1 read : a b|0 del a : b|1 recv 0 3|1 read : a", "It looks as if 0.3 (line 7), applied at "
      "replica 1, deleted b instead of a: "),
     (2, "0 ins a 0 : a|0 del a :|0 ins b 0 : b|1 recv 0 3|1 read : a", "It looks as if 0.2 (line 4), applied at replica 1, deleted b instead of a: "),
-    (1, "0 ins a 0 : a|0 ins b 1 : a b|0 del a : a", "It looks as if 0.3 (line 5), applied at replica 0, deleted b instead of a: "),
-    (2, "0 ins a 0 : a|0 ins b 1 : a b|1 recv 0 2|1 del a : b|0 del a : a", "It looks as if 0.3 (line 7), applied at replica 0, deleted b instead of a: "),
+    (1, "0 ins a 0 : a|0 ins b 1 : a b|0 del a : a", "It looks as if 0.3 (line 5) deleted b instead of a: "),
+    (2, "0 ins a 0 : a|0 ins b 1 : a b|1 recv 0 2|1 del a : b|0 del a : a", "It looks as if 0.3 (line 7) deleted b instead of a: "),
     (2, "0 ins a 0 : a|0 ins b 1 : a b|1 recv 0 2|1 read : a b|0 del a : b|1 recv 0 3|1 view :|1 read : a", "It looks as if 0.3 (line 7), applied "
      "at replica 1, deleted b instead of a: "),
     (1, "0 ins a 0 : a|0 ins b 1 : a b|0 del a : b|0 read : a", ""),  # deleted for the response before, which is right
@@ -1611,6 +1614,11 @@ def kinds(tally: Tally, program: str, folder: str) -> None:
         for done in got, many:
             tally.check(f"kinds: {words} {variable!r}: none of that name", done.returncode == 2 and not done.stdout and b"neighbours" in done.stderr and b"positions" in done.stderr
                         and b"Traceback" not in done.stderr, done)
+    cycle = str(ROOT / "examples" / "libinfinity_three_way_cycle.trace")
+    put = "When replica 2 inserted [b] (2.1, line 7), it had [x] already (since line 5), and put [b] behind it: look at whether that insert says so too, and by its number."
+    for kind, is_told in ("", False), ("neighbours", True), ("tree", True), ("identifiers", False), ("positions", False):
+        told = explain(program, [*(["--editor", kind] if kind else []), cycle]).out.decode()
+        tally.check(f"kinds: {kind or 'none'}: of three, what an author had", (put in told) == is_told, told)
     many = subprocess.run([sys.executable, ROOT / "tools" / "judge_many", "--program", program, "--editor", "identifiers", "--json", "--junit", f"{folder}/kinds.xml", str(path)],
                           capture_output=True)
     explained_there = Path(folder, "kinds.xml").read_text()

@@ -7,7 +7,7 @@ import re
 from typing import NamedTuple
 
 from .evidence import Evidence
-from .kinds import IDENTIFIERS, NEIGHBOURS, POSITIONS, TREE, fitting, is_possible
+from .kinds import BY_ELEMENTS, IDENTIFIERS, NEIGHBOURS, POSITIONS, TREE, fitting, is_possible
 from .positions import are_put_at_once, elements_before, met, met_before, met_inserts, neighbours, put_there_at_once
 from .programs import GUIDE
 from .recordings import Operation, place_asked
@@ -45,6 +45,10 @@ NO_RECEIPT = ("It looks as if {changes} {were} applied at replica {replica} with
               "too late, or names another operation.")
 WRONG_DELETE = ("It looks as if {delete}, applied at replica {replica}, deleted {missing} instead of {surplus}: look at how a replica that applies a "
                 "delete finds the element, and at whether the recorder writes the name of the element that was deleted.")
+WRONG_LOCAL_DELETE = ("It looks as if {delete} deleted {missing} instead of {surplus}: look at how a local delete finds the element, and at whether the recorder writes the name "
+                      "of the element that was deleted.")
+MISNAMED = ("{delete} says that replica {replica} deleted {element}, which {before} does not show{unknown}; {missing} vanished. Look at how a local delete makes the ids of "
+            "what it deletes, which its change carries; or at where the recorder takes them from.")
 MOVED_DELETE = ("If the editor sends positions, the position of {delete} was perhaps not adjusted for {changes}, which the author of {delete} had "
                 "not seen{back}.{tie}")
 MOVED_BEFORE = "; or an insert that replica {replica} received before was not adjusted for a delete that its author had not seen"
@@ -56,9 +60,9 @@ UNKNOWN = ("No line inserts {names}. Perhaps the insert was not recorded, or und
 REPLACED = ("Replica {replica} showed {missing} in {before}; since then it only received {came}, and none of what has come deletes {it}. Look at what {came_first} does there: "
             "does an arriving state replace the replica's own, or does the editor take back its own changes when others' arrive?")
 VANISHED = "Replica {replica} answered what is right in {before}, and has received nothing since. Look at what replica {replica} itself does between the two{unrecorded}"
-TOO_MUCH = ("It looks as if {deletes}, applied at replica {replica}, deleted {missing} along with {theirs}: {missing} stood there in {before}, and no change that "
-            "has come since deletes {it}. Look at where the replica begins to delete there, and at how many elements it deletes.")
-SECOND_DELETE = ("It looks as if {again}, applied at replica {replica}, deleted {missing} instead of {element}: look at how a replica that applies a delete "
+TOO_MUCH = ("It looks as if {deletes}{applied} deleted {missing} along with {theirs}: {missing} stood there in {before}, and no delete of {it} has come there. Look at where "
+            "the replica begins to delete there, and at how many elements it deletes.")
+SECOND_DELETE = ("It looks as if {again}{applied} deleted {missing} instead of {element}: look at how a replica that applies a delete "
                  "finds the element. {element} was already deleted there, by {first}, so look also at what the editor does with a delete whose element is gone.")
 CAUSAL = ("The engine may be right: operations must arrive in causal order. Apply an operation only after everything that its author had seen, or send all of that together with it. If the editor itself holds operations "
           f"back, write the receipt of each only when it is applied. {GUIDE} shows what to record in each case.")
@@ -68,12 +72,14 @@ LOST_OR_OVERTAKEN = ("Look first at whether {name} was lost on its way to replic
 LOST_NEIGHBOUR = ("If inserts find their place by a neighbour, look at inserts beside deleted elements: when {element} arrived, its neighbour was "
                   "already deleted there, as told above. An editor that throws deleted elements away too early finds no place for it, and loses it or "
                   "holds it back for ever.")
-NUMBERS_OF_INSERTS = (" Often the clock that decides between inserts does not advance when changes arrive, or the neighbour is not found; or elements are stored "
-                      "in runs (blocks of several), and a run is split at a wrong place: deleted elements count too.")
+NUMBERS_OF_INSERTS = (" Often the clock that decides between inserts does not advance when changes arrive, or not past the last element of a paste; or the neighbour is not found; "
+                      "or elements are stored in runs (blocks of several), and a run is split at a wrong place{deleted}.")
 OF_INSERTS = {
     "": NUMBERS_OF_INSERTS, NEIGHBOURS: NUMBERS_OF_INSERTS, POSITIONS: " Client and server must adjust alike, and each change once.", IDENTIFIERS: "",
-    TREE: " Often the clock that decides between children does not advance when changes arrive, or the parent or the side is not the one that the author meant, as where the element beside it is deleted.",
+    TREE: " Often the clock that decides between children does not advance when changes arrive, or not past the last element of a paste; or the parent is not the one that the "
+          "author meant{deleted}.",
 }
+DELETED_TOO = {"": ": deleted elements count too", NEIGHBOURS: ": deleted elements count too", TREE: ", as where the element beside it is deleted", IDENTIFIERS: "", POSITIONS: ""}
 IDENTIFIERS_OF = ("If the list is sorted by position identifiers, print those of {names} at line {line}. If they do not rise in this order, look at how the "
                "one of {element} was made; if they do, at how identifiers are compared (numbers must not be compared as text).")
 SORTED = ("If the list is sorted by position identifiers, look at those of {names}: are {two} equal, does one differ between "
@@ -151,8 +157,12 @@ EITHER = ("Look at the order of concurrent inserts: {first} and {then} were inse
           "which replica {replica} knew and the author of {element} did not{back}. Client and server must adjust alike, and each change once.")
 REBASED = ("Replica {replica} inserted both {one} and {two} itself. If the editor takes back its own changes when others' arrive, and applies them anew (rebasing), look at "
            "where that puts them.")
-SEEN = ("Look at where replica {replica} placed [{new}]{arrived}: its author, replica {author}, had [{old}] already when it inserted [{new}] ({later}, line {line}), and put it "
-        "{side} [{old}]. That order must hold everywhere.{numbers}")
+SEEN = ("When replica {author} inserted [{new}] ({later}, line {line}), it had [{old}] already{since}, and put [{new}] {side} it. That order must hold everywhere, but {operation} "
+        "shows [{new}] {other_side} [{old}]. {look}.{numbers}")
+OF_AUTHOR_OR_PLACE = "Look at what that insert says, as replica {author} made it, and at where replica {replica} placed it{arrived}"
+BETWEEN_THE_TWO = "Look at what replica {author} did between the two"
+SEEN_IN_CYCLE = ("When replica {author} inserted [{new}] ({later}, line {line}), it had [{old}] already{since}, and put [{new}] {side} it: look at whether that insert says so too, and by "
+                 "its number.{numbers}")
 SHOWN_ALONE = ("Only replica {replica}, which inserted [{new}] ({insert}, line {line}), shows it {side} [{old}], and only until its next receipt (line {receipt}); the "
                "others, and replica {replica} itself in {own}, show it {other_side} [{old}]. So the insert's change "
                "says another place than the one where the replica itself shows it: look at how a local insert is put into the list, and at what its change carries.")
@@ -188,7 +198,7 @@ def otherwise(condition: str, look: str) -> str:
 def of_contents(evidence: Evidence) -> list:
     if evidence.undelivered:
         return [undelivered(evidence)]
-    found = [*own_back(evidence), *applied_twice(evidence), *in_part(evidence), *wrong_delete(evidence, evidence.operations[0]), *second_delete(evidence), *overtaken(evidence), *lost_neighbour(evidence)]
+    found = [*misnamed(evidence), *own_back(evidence), *applied_twice(evidence), *in_part(evidence), *wrong_delete(evidence, evidence.operations[0]), *second_delete(evidence), *overtaken(evidence), *lost_neighbour(evidence)]
     found += too_much(evidence) if not found else []
     more = unlike_receipts(evidence) if all(cause.name in ("lost neighbour", "applied in part") for cause in found) else []
     is_loss_first = is_loss_likelier(evidence, found or more)
@@ -336,8 +346,19 @@ def wrong_delete(evidence: Evidence, operation: Operation) -> list:
     is_deleted = earlier and not all(evidence.otherwise)  # by what no receipt brings, and that alone tells it
     if is_deleted or not news or is_new or not any(map(operation.has_seen, inserts)):
         return []
-    return [Cause("wrong delete", WRONG_DELETE.format(delete=at(news[0]), replica=operation.replica, missing=missing, surplus=surplus)),
-            *moved_delete(evidence, news[0])]
+    look = WRONG_LOCAL_DELETE if news[0] is operation else WRONG_DELETE
+    return [Cause("wrong delete", look.format(delete=at(news[0]), replica=operation.replica, missing=missing, surplus=surplus)), *moved_delete(evidence, news[0])]
+
+
+def misnamed(evidence: Evidence) -> list:
+    """Of a delete whose element its replica did not show before, and nothing has come since; instead something else is missing."""
+    operation = evidence.operations[0]
+    before, receipts = evidence.before(operation)
+    if operation.kind != "del" or not before or before[0].kind == "view" or receipts or operation.element in before[0].response or not evidence.missing or evidence.repeated:
+        return []
+    unknown = "" if operation.element in evidence.recording.inserts else ", and no line inserts"
+    return [Cause("misnamed", MISNAMED.format(delete=at(operation), replica=operation.replica, element=operation.element, before=at(before[0]), unknown=unknown,
+                                              missing=listed(evidence.missing, MOST_TOLD)))]
 
 
 def too_much(evidence: Evidence) -> list:
@@ -351,7 +372,8 @@ def too_much(evidence: Evidence) -> list:
     unseen = [delete for name in evidence.missing for delete in evidence.recording.deletes.get(name, []) if delete.line < operation.line]
     if not deletes or unseen:
         return []
-    return [Cause("too much", TOO_MUCH.format(deletes=listed(list(map(at, deletes)), MOST_TOLD), replica=operation.replica, missing=listed(evidence.missing, MOST_TOLD),
+    applied = "" if deletes == [operation] else f", applied at replica {operation.replica},"
+    return [Cause("too much", TOO_MUCH.format(deletes=listed(list(map(at, deletes)), MOST_TOLD), applied=applied, missing=listed(evidence.missing, MOST_TOLD),
                                               before=at(before), it="them" if evidence.missing[1:] else "it",
                                               theirs=listed(list(dict.fromkeys(delete.element for delete in deletes)), MOST_TOLD)))]
 
@@ -410,8 +432,9 @@ def replaced(evidence: Evidence) -> list:
 
 def second_delete(evidence: Evidence) -> list:
     found = evidence.second_deletes[:1]
-    return [Cause("second delete", SECOND_DELETE.format(again=at(again), element=again.element, first=at(first), replica=evidence.operations[0].replica,
-                                                        missing=listed(evidence.lost, MOST_TOLD)))
+    replica = evidence.operations[0].replica
+    return [Cause("second delete", SECOND_DELETE.format(again=at(again), element=again.element, first=at(first), missing=listed(evidence.lost, MOST_TOLD),
+                                                        applied="" if again.replica == replica else f", applied at replica {replica},"))
             for again, first in found] + [one for again, _ in found for one in moved_delete(evidence, again)]
 
 
@@ -535,7 +558,9 @@ def sorted_alike(evidence: Evidence) -> Cause:
 def of_refusal(evidence: Evidence, weak: bool) -> list:
     """Concurrent inserts first; then inserts beside deleted elements, then two elements of which one's author had seen the other."""
     if evidence.report["k"] > 2:
-        return [*lost(evidence), *came_between(evidence), of_several(evidence), sorted_alike(evidence), Cause(ALONE, WEAK_ALONE_HOLDS.format(here=here(evidence)))]
+        several = [of_several(evidence), *seen_in_cycle(evidence)]
+        return [*lost(evidence), *came_between(evidence), *(several[::-1] if evidence.is_fine_beside_deleted else several), sorted_alike(evidence),
+                Cause(ALONE, WEAK_ALONE_HOLDS.format(here=here(evidence)))]
     first, then = (evidence.recording.inserts[name][0] for name in evidence.elements)
     weak = weak or evidence.kind == POSITIONS
     if not first.has_seen(then) and not then.has_seen(first):
@@ -549,11 +574,11 @@ def of_refusal(evidence: Evidence, weak: bool) -> list:
         concurrent = settled or [*behind, Cause("concurrent", CONCURRENT.format(first=first.element, then=then.element, place=place_of_both(first, then), print=printed(evidence)))]
         is_told = evidence.between is not None or bool(concurrent[1:]) and not is_gone
         causes = [concurrent, beside_deleted(evidence, is_told)]
-        is_deleted_first = evidence.lost_neighbours and not are_put_at_once(first, then) and not is_told
+        is_deleted_first = evidence.lost_neighbours and not are_put_at_once(first, then) and not is_told and not evidence.is_fine_beside_deleted
         return [*turned_by_itself(evidence), *lost(evidence), *reordered(evidence), *came_between(evidence), *sum(causes[::-1] if is_deleted_first else causes, []), sorted_alike(evidence), *moved_insert(moved)]
     later, old = (first, then) if first.has_seen(then) else (then, first)
     moved = moved_over(evidence)
-    told = seen(evidence, later, old, "" if weak and moved else OF_INSERTS[evidence.kind])
+    told = seen(evidence, later, old, not (weak and moved))
     told += put_meanwhile(evidence, later) or put_meanwhile(evidence, old)
     if weak and moved:
         return [*turned_by_itself(evidence), *lost(evidence), *shown_alone(evidence), *reordered(evidence), Cause("seen", told), *moved_insert(moved), *beside_deleted(evidence)]
@@ -567,18 +592,46 @@ def of_refusal(evidence: Evidence, weak: bool) -> list:
     else:
         last = Cause("seen", told)
     alone = shown_alone(evidence)
-    return [*turned_by_itself(evidence), *lost(evidence), *alone, *turned, *beside_deleted(evidence, bool(alone)), last, *sorted_by, *moved_insert(moved)]
+    gone = beside_deleted(evidence, bool(alone))
+    return [*turned_by_itself(evidence), *lost(evidence), *alone, *turned, *([last, *gone] if evidence.is_fine_beside_deleted else [*gone, last]), *sorted_by, *moved_insert(moved)]
 
 
-def seen(evidence: Evidence, later: Operation, old: Operation, numbers: str) -> str:
-    """Of an insert whose author had the other one, which replica shows them otherwise, and when the insert came there."""
+def seen(evidence: Evidence, later: Operation, old: Operation, is_numbered: bool) -> str:
+    """Of an insert whose author had the other one, which response shows them otherwise, and when the insert came there."""
     names = [name for name in later.response if name in (later.element, old.element)]
-    side = "before" if names[0] == later.element else "behind"
     unlike = next((operation for operation in evidence.operations if [name for name in operation.response if name in names] != names), evidence.operations[0])
     arrival = evidence.recording.arrival(later, unlike.replica) if unlike.replica != later.replica else None
-    arrived = f", which came there in line {arrival.line}" if arrival is not None and not evidence.recording.is_delivered(arrival.line) else ""
-    return SEEN.format(replica=unlike.replica, author=later.replica, later=later.name, line=later.line, new=later.element, old=old.element, side=side, arrived=arrived,
-                       numbers=numbers)
+    arrived = f" in line {arrival.line}" if arrival is not None and not evidence.recording.is_delivered(arrival.line) else ""
+    look = OF_AUTHOR_OR_PLACE if unlike.replica != later.replica else BETWEEN_THE_TWO
+    told = put_beside(evidence, later, old)
+    return SEEN.format(**told, operation=at(unlike), other_side="behind" if told["side"] == "before" else "before",
+                       look=look.format(author=later.replica, replica=unlike.replica, arrived=arrived), numbers=of_inserts(evidence, unlike) if is_numbered else "")
+
+
+def put_beside(evidence: Evidence, later: Operation, old: Operation) -> dict:
+    """On which side of an element that its author had an insert was put, for a sentence; and since when the author had it."""
+    names = [name for name in later.response if name in (later.element, old.element)]
+    arrival = evidence.recording.arrival(old, later.replica) if old.replica != later.replica else None
+    since = f" (since line {arrival.line})" if arrival is not None and not evidence.recording.is_delivered(arrival.line) else ""
+    return {"author": later.replica, "later": later.name, "line": later.line, "new": later.element, "old": old.element, "since": since,
+            "side": "before" if names[0] == later.element else "behind"}
+
+
+def of_inserts(evidence: Evidence, operation: Operation) -> str:
+    """What is often wrong with how an insert is numbered or placed; of deleted elements only where an operation has seen a delete."""
+    has_delete = any(operation.has_seen(delete) for deletes in evidence.recording.deletes.values() for delete in deletes)
+    return OF_INSERTS[evidence.kind].format(deleted=DELETED_TOO[evidence.kind] if has_delete else "")
+
+
+def seen_in_cycle(evidence: Evidence) -> list:
+    """Of more than two, an insert that its author put beside another element of the cycle, which it had: best the one that came last."""
+    last = evidence.arrivals[-1].insert if evidence.arrivals else None
+    found = []
+    for step, operation in evidence.steps if evidence.kind in BY_ELEMENTS else []:
+        pair = [evidence.recording.inserts[step[name]][0] for name in ("from", "to")]
+        found += [(insert is not last, insert.line, insert, other, operation) for insert, other in (pair, pair[::-1]) if insert.has_seen(other)]
+    return [Cause("seen in a cycle", SEEN_IN_CYCLE.format(**put_beside(evidence, insert, other), numbers=of_inserts(evidence, operation)))
+            for *_, insert, other, operation in sorted(found, key=lambda one: one[:2])[:1]]
 
 
 def shown_alone(evidence: Evidence) -> list:

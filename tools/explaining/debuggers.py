@@ -92,7 +92,7 @@ def followed(change: Operation, replica: int) -> str:
 
 def statement(recording: Recording, entry: Operation | Receipt, language: str) -> str:
     """How to stop before this entry, in the recorder's language. Receipts that stand together may have been written together, when all were
-    applied: then before the first of them."""
+    applied, and so may a paste, or a delete of several: then before the first of them."""
     language = language if language in LANGUAGES else USUAL
     name, words = LANGUAGES[language]
     is_read = isinstance(entry, Operation) and entry.kind in ("read", "view")
@@ -105,14 +105,18 @@ def statement(recording: Recording, entry: Operation | Receipt, language: str) -
 
 
 def first_together(recording: Recording, entry: Operation | Receipt) -> int:
-    """The line of the first of the receipts of one replica that stand one behind the other up to this entry; its own of what is none."""
+    """The line of the first entry of those that one call may have written, up to this one: receipts of one replica that stand one behind the other,
+    deletes, or inserts each at the next position, as of a paste."""
     first = entry.line
-    while isinstance(entry, Receipt) and first > FIRST_ENTRY:
-        before = recording.entries[first - FIRST_ENTRY - 1]
-        if not isinstance(before, Receipt) or before.replica != entry.replica:
-            break
+    while first > FIRST_ENTRY and may_be_of_one_call(recording.entries[first - FIRST_ENTRY - 1], recording.entries[first - FIRST_ENTRY]):
         first -= 1
     return first
+
+
+def may_be_of_one_call(before: Operation | Receipt, entry: Operation | Receipt) -> bool:
+    if before.replica != entry.replica or isinstance(before, Receipt) != isinstance(entry, Receipt):
+        return False
+    return isinstance(entry, Receipt) or before.kind == entry.kind and (entry.kind == "del" or entry.kind == "ins" and entry.at == before.at + 1)
 
 
 def doing(entry: Operation | Receipt) -> str:

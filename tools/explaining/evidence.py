@@ -11,6 +11,7 @@ from typing import NamedTuple
 from .recordings import FIRST_ENTRY, Operation, Receipt, Recording, place_asked
 from .telling import FIRST_STEPS, LAST_STEPS, MOST_STEPS
 
+ENOUGH_FINE = 3  # inserts beside deleted elements that went well
 MOST_ASTRAY = 20  # changes that may have been lost that are looked at
 MOST_ARRIVED = 6  # receipts that are told one by one
 SEVERAL = 3  # changes of an author, each with a receipt of its own, so that one without is noticed
@@ -308,6 +309,21 @@ class Evidence:
             if gone:
                 found.append((arrival, gone))
         return found
+
+    @cached_property
+    def is_fine_beside_deleted(self) -> bool:
+        """Of a refusal, whether several other inserts came to replicas where an element beside which they had been put was deleted already, and
+        nothing was wrong: then that alone is not the cause."""
+        about, fine = {arrival.insert for arrival, _ in self.lost_neighbours}, 0
+        for receipts in self.recording.receipts if about else []:
+            for receipt in receipts:
+                insert = receipt.seen
+                if insert.kind == "ins" and insert not in about and receipt.line <= self.last_line and not self.recording.is_delivered(receipt.line):
+                    is_first = self.recording.arrival(insert, receipt.replica) is receipt
+                    fine += is_first and bool(self.deleted_beside(insert, receipt.replica))
+                    if fine == ENOUGH_FINE:
+                        return True
+        return False
 
     def deleted_beside(self, insert: Operation, replica: int) -> list:
         """The deletes, at a replica, of elements beside which the author of an insert put its own, made or come there before it."""

@@ -7,6 +7,7 @@ import re
 import sys
 from typing import NoReturn
 
+from .apart import Apart, told_apart, words_on
 from .beginning import explained
 from .commands import Once, Parser, add_version
 from .cycle_picture import drawing
@@ -107,7 +108,7 @@ def say_fault(judged: Judged, trace: bytes, name: str) -> None:
     print("\n  ".join([shown_lines(judged.error), *about_fault(judged.error, trace, name)]), file=sys.stderr)
 
 
-def write_small(path: str, evidence: Evidence, told: Evidence, program: str, known: Beside) -> None:
+def write_small(path: str, evidence: Evidence, told: Evidence, program: str, known: Beside, apart: Apart) -> None:
     """Of a trace that went wrong before its end, that beginning made small: what follows may hide how it came about."""
     if evidence.report["verdict"] == "accepted":
         print(f"\n{shown(path)} is not written: an accepted trace has no fault to make small")
@@ -115,7 +116,7 @@ def write_small(path: str, evidence: Evidence, told: Evidence, program: str, kno
     small = smallest(told, report_of(program))
     if small is None:
         fail("no small trace was made: this tool's copy of the whole trace has another verdict")
-    write(path, small.text)
+    write(path, apart.back(small.text))
     lines = small.text.splitlines()
     placed = [f"{number} {known.places[line]}" for number, line in enumerate(small.lines, FIRST_ENTRY) if line in known.places]
     beside_it = [*known.marks(small.lines), *placed]
@@ -138,8 +139,10 @@ def same_as(evidence: Evidence, told: Evidence) -> str:
 
 def explain(asked: argparse.Namespace, program: str, trace: bytes, side: Side, judged: Judged) -> None:
     known = beside(trace, side)
-    evidence = Evidence(Recording(trace.decode(), tuple(asked.delivered) or known.delivered), judged.report, kind=asked.editor)
+    apart = told_apart(trace.decode(), judged.report)
+    evidence = Evidence(Recording(apart.text, tuple(asked.delivered) or known.delivered), apart.report, kind=asked.editor)
     words, told = explained(evidence, report_of(program), asked.language or known.language or USUAL, asked.weak)
+    words = words._replace(headline=words.headline + words_on(apart.letters))
     is_alone = asked.weak and is_weak_alone(judged.report)
     refused = tuple(map(shown, asked.refused)) or known.refused
     warnings = placed_warnings(warnings_of(judged.report["verdict"], trace, side, is_alone, refused).all, known)
@@ -154,7 +157,7 @@ def explain(asked: argparse.Namespace, program: str, trace: bytes, side: Side, j
     elif asked.svg:
         print(f"\n{shown(asked.svg)} is not written: only a refused recording has a cycle to draw")
     if asked.small:
-        write_small(asked.small, evidence, told, program, known)
+        write_small(asked.small, evidence, told, program, known, apart)
 
 
 def main() -> None:

@@ -5,6 +5,7 @@ from __future__ import annotations
 from typing import NamedTuple
 
 from .beginning import explained, failing_beginning
+from .apart import told_apart, words_on
 from .causes import causes_of
 from .debuggers import USUAL
 from .evidence import Evidence, Unexplained
@@ -154,8 +155,10 @@ def placed(row: Row, request: Request, trace: bytes, known: Beside) -> Row:
 def explanation_of(row: Row, request: Request, trace: bytes, known: Beside) -> tuple:
     """What `explain` says of a failure, and the elements of a refusal; or its verdict alone, where the program lies, or memory runs out."""
     try:
-        evidence = Evidence(Recording(trace.decode(), known.delivered), row.report, kind=request.editor)
+        apart = told_apart(trace.decode(), row.report)
+        evidence = Evidence(Recording(apart.text, known.delivered), apart.report, kind=request.editor)
         words, told = explained(evidence, report_of(request.program), known.language or USUAL, request.weak)
+        words = words._replace(headline=words.headline + words_on(apart.letters))
         about = listed(told.elements, MOST_STEPS) if told.report["verdict"] == "refused" else ""
         return text_of(with_places(with_warnings(words, row.warnings or [], known.refused), known)), about
     except (Unexplained, NoProgram, ValueError, LookupError, MemoryError):
