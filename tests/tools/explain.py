@@ -977,8 +977,8 @@ def said_first(tally: Tally, program: str) -> None:
 
 def beginning(tally: Tally, program: str, text: str, report: dict, said: str) -> tuple:
     """The line with which a refused session went wrong is told where it is not the last one: the program accepts the lines before it,
-    and refuses them with it. Where it reports other steps of these than of the whole, they are told. Answers the text up to that line, and
-    the report on it."""
+    and refuses them with it. Where it reports other steps of these than of the whole, and another number, they are told. Answers the text up to
+    that line, and the report on it."""
     told = paragraph(said, "When it showed")
     front, shown = said.partition("\nWhat the whole trace shows: ")[::2]
     lines = text.splitlines(keepends=True)
@@ -987,14 +987,16 @@ def beginning(tally: Tally, program: str, text: str, report: dict, said: str) ->
     is_right = before["verdict"] == "accepted" and behind["verdict"] == "refused" and bool(told) == (last < len(lines))
     tally.check("refused: when it went wrong", is_right, f"{text}{report}\n{said}")
     wanted = [[(step["from"], step["to"]) for step in one["steps"]] for one in (behind, report)]
-    wanted[1:] = wanted[1:] * (behind["steps"] != report["steps"])
+    is_other = behind["steps"] != report["steps"]
+    wanted[1:] = wanted[1:] * (behind["k"] != report["k"])
     steps = [re.findall(r"^  \[(\S+)\] before \[(\S+)\]: ", half, re.MULTILINE) for half in (front, shown) if half]
     tally.check("refused: what it showed then, and the whole trace", steps == wanted, f"{text}{report}\n{said}")
     titles = [line for line in front.splitlines() if line.startswith("What the")]
     tally.check("refused: under which title", titles == ["What these responses show: a circle, which no order allows"], said)
-    others = " too, for other responses" if behind["k"] == report["k"] else ""
-    ending = f" This is what went wrong first, within the first {last} lines. The verdict on the whole trace is `refused {report['k']}`{others} (told below)."
-    tally.check("refused: the whole trace's number", said.splitlines()[0].endswith(ending) == bool(wanted[1:])
+    others = " too, by other responses" if behind["k"] == report["k"] else " (told below)"
+    ending = f" This is what went wrong first, within the first {last} lines. The verdict on the whole trace is `refused {report['k']}`{others}."
+    headline = said.splitlines()[0]
+    tally.check("refused: the whole trace's number", (ending in headline if is_other else "This is what went wrong first" not in headline)
                 and said.startswith(f"refused {behind['k']}: "), said)
     return "".join(lines[:last]), behind
 
@@ -1628,6 +1630,26 @@ def kinds(tally: Tally, program: str, folder: str) -> None:
     tally.check("kinds: nothing of an accepted trace", hint not in explain(program, [str(path)]).out)
 
 
+def named_as_operations(tally: Tally, program: str, folder: str) -> None:
+    """Elements that a user names as operations are named, 0.2 or so, are told apart from these in the words, and stay as they are in a small trace."""
+    path, small = Path(folder, "dotted.trace"), Path(folder, "dotted_small.trace")
+    entries = "0 ins {0} 0 : {0}|1 ins {1} 0 : {1}|0 recv 1 1|1 recv 0 1|0 read : {0} {1}|1 read : {1} {0}"
+    longest = "1." + "2" * 30
+    for first, then, shown in ("1.7", "0.12", ("e1.7", "e0.12")), ("1.7", "e0.12", ("ee1.7", "e0.12")), ("1.7.2", "a1.7", ("1.7.2", "a1.7")), (longest, "1.7", (longest, "1.7")):
+        path.write_text(text_of(2, entries.format(first, then)))
+        got = explain(program, ["--small", str(small), str(path)])
+        told = got.out.decode()
+        letters = shown[0].removesuffix(first)
+        is_said = f"have {letters} before their names here.)" in told.splitlines()[0] if letters else "before their names" not in told
+        tally.check(f"named as operations: {first} {then}", is_said and f"[{shown[0]}] before [{shown[1]}]: line 7 of the trace, 0.2: replica 0 read the list, answered [{shown[0]}] [{shown[1]}]" in told
+                    and f"{shown[0]}: inserted by 0.1 (line 3)" in told and got.status == 1, told)
+        tally.check(f"named as operations: {first} {then}: a small trace", sorted(small.read_text().splitlines()) == sorted(path.read_text().splitlines()), small.read_text())
+        many = subprocess.run([sys.executable, ROOT / "tools" / "judge_many", "--program", program, "--junit", f"{folder}/dotted.xml", str(path)], capture_output=True)
+        tally.check(f"named as operations: {first} {then}: in JUnit", many.returncode == 1 and f"[{shown[0]}] before [{shown[1]}]: line 7" in Path(folder, "dotted.xml").read_text(), many)
+    path.write_text(text_of(1, "0 ins 0.1 0 : 0.1"))
+    tally.check("named as operations: accepted", "accepted: the only response" in explain(program, [str(path)]).out.decode() and "e0.1" not in explain(program, [str(path)]).out.decode())
+
+
 def lost_messages(tally: Tally, program: str, folder: str, bug: str, seeds: int, least: int, share: float) -> list:
     """Random sessions in which changes are lost on their way: where one fails, the words say that one of these was lost, and on its way where; and so
     do most of the words on small traces. Answers the words."""
@@ -2253,6 +2275,7 @@ def main() -> None:
     drawn(tally, program)
     with tempfile.TemporaryDirectory() as folder:
         kinds(tally, program, folder)
+        named_as_operations(tally, program, folder)
         planted_bugs(tally, program, folder)
         updates_of_several(tally, program)
     with tempfile.TemporaryDirectory() as folder:

@@ -43,13 +43,14 @@ def explanation(evidence: Evidence, told: Evidence, language: str = debuggers.US
     in_order = [*(cause for cause in causes if cause.name != ALONE), *of_whole(evidence, told), *alone]
     where = [Section(WHERE, [cause.told for cause in in_order])] if causes else []
     whole = whole_trace(evidence, told)
+    is_alike = verdict_of(evidence.report) == verdict_of(told.report)  # then more responses would tell nothing new
     if whole:
-        others = " too, for other responses" if verdict_of(evidence.report) == verdict_of(told.report) else ""
-        headline += f" This is what went wrong first, within the first {told.last_line} lines. The verdict on the whole trace is {verdict_of(evidence.report)}{others} (told below)."
+        others = " too, by other responses" if is_alike else " (told below)"
+        headline += f" This is what went wrong first, within the first {told.last_line} lines. The verdict on the whole trace is {verdict_of(evidence.report)}{others}."
     if weak and is_weak_alone(evidence.report):
         headline = f"{WEAK_ALONE}: this passes, since only the weak list specification is asked for. Why the strong one fails: {headline}"
     return Explanation(headline, [*when_it_went_wrong(evidence, told, weak), *without_receipts(told), *sections, *where,
-                                  *in_a_debugger(told, language, causes), *whole, specifications(evidence.report, bool(whole))],
+                                  *in_a_debugger(told, language, causes), *([] if is_alike else whole), specifications(evidence.report, bool(whole))],
                        tuple(cause.name for cause in causes))
 
 
