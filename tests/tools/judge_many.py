@@ -711,7 +711,7 @@ def refused_calls(tally: Tally, program: str, folder: str) -> None:
     page = f"{folder}/page.html"
     got = run(EXPLAIN, ["--program", program, "--html", page, f"{folder}/zz.trace"])
     said = got.out.decode()
-    tally.check("refused calls: explain", got.status == 0 and said.startswith("accepted, with ") and f"\nWhat this verdict may hide\n  {NEVER_CAME}\n" in said, got)
+    tally.check("refused calls: explain", got.status == 2 and said.startswith(f"accepted, but this is no pass: {NEVER_CAME}\n") and f"\nWhat this verdict may hide\n  {NEVER_CAME}\n" in said, got)
     tally.check("refused calls: the page", "what it says never came" in Path(page).read_text())
     said = run(EXPLAIN, ["--program", program, f"{folder}/bad.trace"]).out.decode()
     tally.check("refused calls: explain, of what is wrong by itself", said.startswith("contents 0.1: ") and
@@ -957,7 +957,7 @@ def beside_links(tally: Tally, program: str, folder: str, other: str) -> None:
         row = json.loads(got.out)
         tally.check(f"links: what stands {what}", (got.status, row["verdict"]) == (status, "failed" if status else "accepted"), got)
         told = subprocess.run([EXPLAIN, "--program", program, f"{folder}/by_link.trace"], capture_output=True, text=True)
-        tally.check(f"links: explain, {what}", ("may have been cut" in told.stdout) == bool(status), told)
+        tally.check(f"links: explain, {what}", ("may have been cut" in told.stdout) == bool(status) and told.returncode == status, told)
     Path(folder, "by_link.trace.lines").unlink()
     got = judge(program, ["--junit", f"{other}/real.trace.lines", folder])
     tally.check("links: what stands beside the trace is not written over", got.status == 2 and Path(other, "real.trace.lines").read_text() == "4\n", got)

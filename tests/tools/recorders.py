@@ -1226,6 +1226,7 @@ fn main() {{
         if recording.lines() == 5 {{ eprintln!("here") }}
         println!("{{}}", recording.read(0, &[] as &[&str]).unwrap());
     }}
+    assert_eq!(recording.text().lines().count(), 8);
 }}
 ''', "here", ["rustc", "--edition", "2021", "-o", "stopping_rs", "stopping.rs"], ["./stopping_rs"]),
     "stopping.c": (f'''#include "{ROOT / 'recorders'}/domepeeler.h"
@@ -2528,8 +2529,10 @@ fn it_stops() {{
 
 #[test]
 fn there_is_no_program() {{
-    assert!(session().verdict_by("/nowhere/domepeeler").unwrap_err().starts_with("/nowhere/domepeeler cannot be run ("));
-    assert_eq!(session().verdict_by("true").unwrap_err(), "true ended with status 0 and printed no report");
+    let session = session();
+    assert!(session.verdict_by("/nowhere/domepeeler").unwrap_err().starts_with("/nowhere/domepeeler cannot be run ("));
+    assert_eq!(session.verdict_by("true").unwrap_err(), "true ended with status 0 and printed no report");
+    session.verdict().unwrap();
 }}
 
 #[test]
@@ -2690,6 +2693,11 @@ fn fails() {{
     assert!(std::env::var_os("FAILS").is_none(), "by itself");
 }}
 
+/// Hands it on, so that nothing is wrong with dropping it.
+fn taken(recording: &Recording) {{
+    assert!(recording.text().starts_with("trace 1\n"));
+}}
+
 #[test]
 fn by_itself() {{
     let mut recording = reading(&[]);
@@ -2701,10 +2709,13 @@ fn by_itself() {{
 #[test]
 fn with_three() {{
     let first = reading(&["first"]);
-    let copy = reading(&["second"]).clone();
+    let second = reading(&["second"]);
+    let copy = second.clone();
+    taken(&second);
+    drop(second);
     let third = reading(&["third"]);
     fails();
-    drop((first, copy, third));
+    [&first, &copy, &third].into_iter().for_each(taken);
 }}
 
 #[test]
@@ -2721,6 +2732,7 @@ fn after_it_was_saved() {{
     recording.save("by_hand.trace").unwrap();
     recording.read(0, &["later"]).unwrap();
     fails();
+    taken(&recording);
 }}
 
 #[test]
@@ -2728,6 +2740,7 @@ fn in_a_log() {{
     let mut log = Recording::only(3, 1).unwrap();
     log.received(1, 0, 7).unwrap();
     fails();
+    taken(&log);
 }}
 
 #[test]
@@ -2754,6 +2767,7 @@ fn lists_differ() {{
     recording.read(1, &["a"]).unwrap();
     recording.insert(0, "b", 1, &["a", "b"]).unwrap(); // never arrives
     fails();
+    taken(&recording);
 }}
 
 #[test]
@@ -2764,17 +2778,18 @@ fn of_nothing() {{
 
 #[test]
 fn caught() {{
-    drop(reading(&[]));
+    taken(&reading(&[]));
     assert!(std::panic::catch_unwind(|| panic!("before")).is_err());
-    drop(reading(&[]));
+    taken(&reading(&[]));
 }}
 
 #[test]
 fn of_three_cases() {{
     for case in ["one", "two", "three"] {{
         let tried = std::panic::catch_unwind(|| {{
-            let _recording = reading(&[case]);
+            let recording = reading(&[case]);
             fails();
+            taken(&recording);
         }});
         assert_eq!(tried.is_ok(), std::env::var_os("FAILS").is_none());
     }}
@@ -2835,6 +2850,183 @@ def check_own_panics(tally: Tally, program: str, folder: Path) -> None:
         done = subprocess.run(["./own", "--nocapture", "by_itself"], cwd=place, env={**surroundings, "FAILS": "1"}, stdout=subprocess.PIPE,
                               stderr=full, text=True)
     tally.check("Rust: where standard error takes nothing", done.returncode == 101 and "0 passed; 1 failed;" in done.stdout, done)
+
+
+# Tests in Rust: those that end with a recording that nothing has judged, and right ones.
+DROPPED = f"""#[path = "{ROOT / 'recorders'}/domepeeler.rs"]
+mod domepeeler;
+use domepeeler::{{Recording, Refused}};
+
+fn reading(names: &[&str]) -> Recording {{
+    let mut recording = Recording::new(1).unwrap();
+    recording.read(0, names).unwrap(); // reads
+    recording
+}}
+
+#[test]
+fn bad_forgotten() {{
+    reading(&[]);
+}}
+
+#[test]
+fn bad_later() {{
+    let mut recording = reading(&[]);
+    recording.judge().unwrap();
+    recording.read(0, &["lost"]).unwrap();
+}}
+
+#[test]
+fn bad_copy() {{
+    let recording = reading(&[]);
+    let mut copy = recording.clone();
+    copy.read(0, &["lost"]).unwrap();
+    recording.assert_accepted();
+}}
+
+#[test]
+fn bad_refused() {{
+    let mut recording = reading(&[]);
+    recording.assert_accepted();
+    let _ = recording.read(7, &["lost"]);
+}}
+
+#[test]
+fn bad_all_refused() {{
+    let _ = Recording::new(1).unwrap().read(7, &["lost"]);
+}}
+
+#[test]
+fn bad_refused_and_stops() {{
+    let mut recording = Recording::new(1).unwrap().stop().unwrap();
+    let _ = recording.read(7, &["lost"]);
+    recording.read(0, &[] as &[&str]).unwrap();
+}}
+
+#[test]
+fn bad_without_program() {{
+    if let Ok(report) = reading(&["lost"]).judge_by("/nowhere/domepeeler") {{
+        assert!(report.contains("accepted"));
+    }}
+}}
+
+#[test]
+fn bad_question_mark() -> Result<(), Refused> {{
+    let mut recording = reading(&[]);
+    recording.received(0, 9, 1)?;
+    recording.assert_accepted();
+    Ok(())
+}}
+
+#[test]
+fn bad_two() {{
+    let _both = [reading(&["one"]), reading(&["two"])];
+}}
+
+#[test]
+fn right_ways() {{
+    reading(&[]).assert_accepted();
+    reading(&[]).assert_weak();
+    reading(&["lost"]).judge().unwrap();
+    reading(&["lost"]).verdict().unwrap();
+    reading(&["lost"]).explain().unwrap();
+    reading(&["lost"]).save("right.trace").unwrap();
+    assert!(reading(&["lost"]).text().ends_with(": lost\n"));
+    drop(Recording::new(3));
+    let recording = reading(&[]);
+    drop(recording.clone());
+    recording.assert_accepted();
+    let mut log = Recording::only(3, 1).unwrap();
+    log.received(1, 0, 7).unwrap();
+    log.save("right.log").unwrap();
+    let mut stopping = Recording::new(1).unwrap().stop().unwrap();
+    stopping.read(0, &[] as &[&str]).unwrap();
+}}
+
+#[test]
+fn right_waiting() {{
+    let mut recording = Recording::new(2).unwrap();
+    recording.insert(1, "a", 0, &["a"]).unwrap();
+    recording.insert(1, "b", 1, &["a", "b"]).unwrap();
+    assert!(matches!(recording.received_clock(0, 1, &[0, 2], 1), Err(Refused::NotCausal {{ .. }})));
+    recording.received_clock(0, 1, &[0, 1], 1).unwrap();
+    recording.received_clock(0, 1, &[0, 2], 1).unwrap();
+    recording.delivered(&[["a", "b"], ["a", "b"]]).unwrap();
+    recording.assert_accepted();
+}}
+"""
+UNJUDGED = "nothing has judged this recording, saved it or taken its text, so nobody knows whether it is right"
+SINCE = "something was recorded, or refused, since the recording was judged, saved or taken as text, and nothing has judged that"
+DROPPED_TOLD = {  # by test: what it fails with, up to the line behind which it should have ended, and what the last call failed with
+    "forgotten": (UNJUDGED, ""), "later": (SINCE, ""), "copy": (UNJUDGED, ""), "two": (UNJUDGED, ""), "refused": (SINCE, "no replica 7 among 0 to 0"),
+    "all_refused": (UNJUDGED, "no replica 7 among 0 to 0"), "question_mark": (UNJUDGED, "no replica 9 among 0 to 0"),
+    "refused_and_stops": ("a call was refused, so what it says is not recorded: no replica 7 among 0 to 0", ""),
+    "without_program": (UNJUDGED, "/nowhere/domepeeler cannot be run (")}
+
+
+def check_dropped(tally: Tally, program: str, folder: Path) -> None:
+    """A test in Rust fails that drops a recording which nobody has judged, saved or taken as text since something was recorded or refused; it
+    says behind which line to end, and what the last call failed with. No right way to end trips it."""
+    place = folder / "dropped"
+    place.mkdir()
+    (place / "drops.rs").write_text(DROPPED)
+    subprocess.run(["rustc", "--edition", "2021", "-D", "warnings", "--test", "-o", "drops", "drops.rs"], cwd=place, check=True)
+    done = subprocess.run(["./drops"], cwd=place, capture_output=True, text=True, env={
+        **os.environ, "DOMEPEELER": program, "DOMEPEELER_EXPLAIN": EXPLAIN, "RUST_BACKTRACE": "0"})
+    tally.check("Rust, dropped: all that are wrong fail, and no other", f"2 passed; {len(DROPPED_TOLD)} failed;" in done.stdout and
+                "test right_ways ... ok\n" in done.stdout and "test right_waiting ... ok\n" in done.stdout, done)
+    for name, (words, failed) in DROPPED_TOLD.items():
+        told = done.stdout.partition(f"---- bad_{name} stdout ----\n")[2].partition("\n----")[0]
+        tally.check(f"Rust, dropped: {name}", f":\n{words}: end with recording.assert_accepted()" in told and
+                    ("all" in name or " behind drops.rs:" in told) and (f". The last call failed: {failed}" in told if failed else "failed:" not in told), told)
+
+
+# A program in C that frees a recording of which something was recorded, in a way that a word names.
+FREED = f"""#include "{ROOT / 'recorders'}/domepeeler.h"
+static void ignore(const char *words, void *data) {{ (void)words, (void)data; }}
+int main(int count, char **words) {{
+    const char *way = words[1], *lost[] = {{"lost"}};
+    struct domepeeler *d = domepeeler_new(1);
+    unsigned said = count == 2;
+    if (!strncmp(way, "stop", 4)) said = domepeeler_stop(d, 0, ignore, NULL);
+    if (!strcmp(way, "stop, refused")) said = !domepeeler_read(d, 7, lost, 1);
+    if (strcmp(way, "nothing")) said = said && domepeeler_read(d, 0, lost, strcmp(way, "stop, refused") ? 1 : 0); /* reads */
+    char *report = !strncmp(way, "judge", 5) ? domepeeler_judge(d, strstr(way, "nowhere") ? "/nowhere/domepeeler" : NULL) : NULL;
+    if (!strcmp(way, "explain")) report = domepeeler_explain(d, NULL);
+    if (!strcmp(way, "weak")) said = !domepeeler_passes_weak(d, NULL);
+    if (!strncmp(way, "save", 4)) said = domepeeler_save(d, strcmp(way, "save") ? "/nowhere/x.trace" : "freed.trace");
+    if (!strncmp(way, "text", 4)) said = domepeeler_text(d) != NULL;
+    if (strstr(way, "later")) said = domepeeler_read(d, 0, lost, 1);
+    if (!strcmp(way, "text, refused")) said = !domepeeler_read(d, 7, lost, 1);
+    if (!strcmp(way, "forked") && !fork()) {{
+        domepeeler_free(d);
+        _exit(0);
+    }}
+    if (!strcmp(way, "forked")) wait(NULL), said = domepeeler_text(d) != NULL;
+    free(report);
+    domepeeler_free(d);
+    return !said;
+}}
+"""
+TOLD_WHEN_FREED = {"recorded": "recorded or refused", "text, later": "recorded or refused", "text, refused": "recorded or refused", "judge by nowhere":
+                   "recorded or refused", "save nowhere": "recorded or refused", "stop, refused": "refused"}
+SILENT_WHEN_FREED = ["nothing", "judge", "explain", "weak", "save", "text", "stop", "forked"]
+
+
+def check_freed(tally: Tally, program: str, folder: Path) -> None:
+    """A program in C that frees a recording which nobody has judged, explained, saved or taken as text since something was recorded or refused says
+    so on standard error, with the last line of code. No right way does."""
+    place = folder / "freed"
+    place.mkdir()
+    (place / "freed.c").write_text(FREED)
+    subprocess.run(["gcc", "-Wall", "-Wextra", "-Werror", "-o", "freed", "freed.c"], cwd=place, check=True)
+    line = next(number for number, text in enumerate(FREED.splitlines(), 1) if "/* reads */" in text)
+    for way in [*TOLD_WHEN_FREED, *SILENT_WHEN_FREED]:
+        done = subprocess.run(["./freed", way], cwd=place, capture_output=True, text=True,
+                              env={**os.environ, "DOMEPEELER": program, "DOMEPEELER_EXPLAIN": EXPLAIN})
+        told = (f"domepeeler: a recording is freed, and nothing has judged it, saved it or taken its text since something was {TOLD_WHEN_FREED.get(way)}; "
+                f"its last line was recorded by freed.c:")
+        tally.check(f"C, freed: {way}", done.returncode in (0, 1) and (done.stderr.startswith(told) and done.stderr.count("\n") == 1 and (
+            f"freed.c:{line}" in done.stderr or "later" in way) if way in TOLD_WHEN_FREED else done.stderr == ""), done)
 
 
 # Compilers and the standards that they follow; and headers that a user may include before the recorder.
@@ -3513,6 +3705,8 @@ def main() -> None:
         check_weak_heads(tally, program, folder)
         check_rust_tests(tally, program, folder)
         check_own_panics(tally, program, folder)
+        check_dropped(tally, program, folder)
+        check_freed(tally, program, folder)
         check_compilers(tally, folder)
         check_spawns(tally, folder)
         check_forked_c(tally, folder)
