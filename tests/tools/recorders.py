@@ -3449,6 +3449,7 @@ int main(int argc, char **argv) {{
     domepeeler_on_abort(recording, "aborted.trace");
     if (argc != 3 || !domepeeler_insert(recording, 0, "a", 0, list, 1) || !domepeeler_read(recording, 0, list, argv[1][0] == 's')) return 2;
     assert(argv[2][0] == 'h' || argv[2][0] == 'f');
+    if (!domepeeler_text(recording)) return 2; /* so that nothing is said when it is freed */
     domepeeler_free(recording);
     if (argv[2][0] == 'f') abort();
     return 0;
