@@ -1868,6 +1868,28 @@ MERGED_BESIDE = [
 ]
 
 
+# How many seconds before the last one each of three logs was written, and of which it is warned, with how long before which.
+WRITTEN = [((0, 0, 0), []), ((3600, 0, 1800), []), ((3700, 0, 0), [(0, "an hour", 1)]), ((0, 7300, 0), [(1, "2 hours", 0)]),
+           ((90000, 90060, 0), [(1, "25 hours", 2), (0, "25 hours", 2)]), ((20000, 10000, 0), [(0, "5 hours", 2), (1, "2 hours", 2)]), ((3000, 6000, 0), [])]
+
+
+def check_merge_stale(tally: Tally, folder: Path) -> None:
+    """A log that was last written more than an hour before the others is warned of; the logs are merged all the same."""
+    place = folder / "stale"
+    place.mkdir()
+    logs = [place / f"log{number}" for number in range(3)]
+    for number, log in enumerate(logs):
+        log.write_text(f"trace 1\nreplicas 3\n{number} read :\n")
+    for ages, wanted in WRITTEN:
+        for age, log in zip(ages, logs):
+            os.utime(log, (1_000_000_000 - age,) * 2)
+        for more in [], ["--output", place / "merged.trace"]:
+            done = subprocess.run([sys.executable, ROOT / "recorders" / "merge.py", *more, *logs], capture_output=True, text=True)
+            told = [f"merge.py: warning: {logs[log]} was last written more than {long} before {logs[other]} was, so it may be of an earlier run"
+                    for log, long, other in wanted]
+            tally.check(f"merge: logs that were written {ages} seconds before, {more[:1]}", done.returncode == 0 and done.stderr.splitlines() == told, done)
+
+
 def check_merge_refused(tally: Tally, folder: Path) -> None:
     """On standard output, which has no file beside it, refused calls of a log are warned of."""
     place = folder / "refused logs"
@@ -3697,6 +3719,7 @@ def main() -> None:
         check_merge(tally, program, folder)
         check_merge_hostile(tally, folder)
         check_merge_refused(tally, folder)
+        check_merge_stale(tally, folder)
         check_guide(tally, program, folder)
         check_readme(tally, program, folder)
         check_hypothesis(tally, program, folder)
