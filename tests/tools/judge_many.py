@@ -1614,6 +1614,7 @@ def tasks(tally: Tally, program: str, folder: str) -> None:
             os.symlink(target, f"{part}/{name}")
         done = subprocess.run(words, cwd=place, capture_output=True, text=True, env=here)
         tally.check(f"tasks: {kind}: each real folder is judged once", done.returncode == 0 and len(Path(place, lines).read_text().splitlines()) == 10, done)
+        stray(tally, kind, place, words, here)
         stranger = Path(folder, "stranger")
         stranger.mkdir(exist_ok=True)
         for what, text in (("a traceback", "import nowhere\n"), ("a tool that answers too little", "import sys\nprint('{}')\nsys.exit(1)\n"),
@@ -1645,6 +1646,19 @@ def tasks(tally: Tally, program: str, folder: str) -> None:
                 done = subprocess.run(words, cwd=place, capture_output=True, text=True, env=here | {"PATH": f"{stranger}:{here['PATH']}"})
                 tally.check(f"tasks: {kind}: {'an empty' if is_there else 'no'} folder, and a tool that ends with {status}", done.returncode == 2, done)
             os.makedirs(f"{place}/night/part0", exist_ok=True)
+
+
+def stray(tally: Tally, kind: str, place: str, words: list, here: dict) -> None:
+    """A trace that lies in no task's folder fails task 0, which says which; other tasks judge what is theirs."""
+    for name, is_stray in ("part99/last.trace", False), ("notes/seed.txt", False), ("part100/more.trace", True), ("beside.trace", True), ("part07/x.TRACE", True):
+        write(f"{place}/night", {name: "0 ins a 0 : a", "part7/x.trace": "0 ins a 0 : a"})
+        for task, fails in ("0", is_stray), ("7", False):
+            of_task = {key: task if key in ("SLURM_ARRAY_TASK_ID", "JOB_COMPLETION_INDEX") else value for key, value in here.items()}
+            done = subprocess.run(words, cwd=place, capture_output=True, text=True, env=of_task)
+            tally.check(f"tasks: {kind}: {name} beside the tasks' folders, task {task}", done.returncode == (2 if fails else 0) and
+                        (re.search(rf"^no task judges (night|\.)/{name}: is there a part behind 99\?\n$", done.stderr, re.MULTILINE) is not None) == fails, done)
+        shutil.rmtree(f"{place}/night/part7")
+        Path(place, "night", name).unlink()
 
 
 def script_of_ci(tally: Tally, program: str, folder: str) -> None:
