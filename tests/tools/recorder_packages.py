@@ -10,6 +10,8 @@ import shutil
 import subprocess
 import sys
 import tempfile
+import time
+from concurrent.futures import ThreadPoolExecutor
 from pathlib import Path
 
 ROOT = Path(__file__).resolve().parents[2]
@@ -1319,6 +1321,7 @@ def check_python(tally: Tally, place: Place) -> None:
     tally.check("pytest: warns where nothing was recorded, and nowhere else", "2 failed, 3 passed, 1 warning" in said and
                 "test_nothing" in said and all(words in said for words in warnings_of("accepted", b"trace 1\nreplicas 2\n").all), said)
     check_ends_of_pytest(tally, place, [*command[:-1], "test_ends.py"])
+    check_two_runs(tally, place, [*command[:-1], "test_runs.py"])
     check_weak_of_pytest(tally, place, [*command[:-1], "test_weak.py"])
     check_stop_of_pytest(tally, place, [*command[:-1], "test_stop.py"])
     check_beside(tally, place, "Python", [python, "-c", EXPLAINING["python"]], "python")
@@ -1425,6 +1428,52 @@ def check_cut_short(tally: Tally, place: Place, command: list) -> None:
     tally.check("pytest: a test that is skipped while it is torn down", done.returncode == 1 and
                 "ERROR test_cut.py::test_ends - domepeeler: the test was skipped while it was torn down" in done.stdout, done.stdout)
     (place.folder / "python/test_cut.py").unlink()
+
+
+# A test that ends soon, and one that waits for the end of another run, where a variable says so; another says whether the list is lost.
+TWO_RUNS = """
+import os
+import time
+from pathlib import Path
+
+
+def test_soon(domepeeler):
+    domepeeler(1).insert(0, os.environ["NAME"], 0, [] if "LOST" in os.environ else [os.environ["NAME"]])
+
+
+def test_last():
+    for _ in range(600):
+        if "WAITS" not in os.environ or Path("ended").exists():
+            return
+        time.sleep(0.1)
+    raise TimeoutError("the other run")
+"""
+
+
+def check_two_runs(tally: Tally, place: Place, command: list) -> None:
+    """Of two runs of pytest in one folder neither overwrites or removes what the other has saved, whether both fail or one passes; a later run,
+    which is alone, removes all where the test passes."""
+    place.make("python/test_runs.py", TWO_RUNS)
+    folder = place.folder / "python/failed_traces"
+    for ways, more in (([], []), (["LOST"], []), ([], ["-n", "1"]), (["LOST"], ["-n", "1"])):
+        shutil.rmtree(folder, ignore_errors=True)
+        (place.folder / "python/ended").unlink(missing_ok=True)
+        with ThreadPoolExecutor(1) as pool:
+            first = pool.submit(place.run, [*command, *more], "python", LOST="1", NAME="first", WAITS="1")
+            while not first.done() and not list(folder.glob("*.trace")):
+                time.sleep(0.05)
+            second = place.run([*command, *more], "python", **dict.fromkeys(ways, "1"), NAME="second")
+            place.make("python/ended", "")
+        saved = {path.read_text().split()[6]: path for path in folder.glob("*.trace")}
+        name = f"two runs of pytest, {len(ways)} fails beside the first, {more}"
+        tally.check(f"{name}: each is told of, and kept", set(saved) == {"first", "second"} if ways else set(saved) == {"first"}, (saved, second.stdout))
+        tally.check(f"{name}: the names", saved.get("first", Path()).name == "test_runs.py--test_soon.trace" and f"The trace is saved: {saved['first']}\n" in first.result().stdout and
+                    (not ways or re.fullmatch(r"test_runs\.py--test_soon-run[0-9]+\.trace", saved["second"].name) is not None and
+                     f"The trace is saved: {saved['second']}\n" in second.stdout), (saved, first.result().stdout, second.stdout))
+        done = place.run(command, "python", NAME="third")
+        tally.check(f"{name}: a run alone that passes removes all", done.returncode == 0 and [path.name for path in folder.iterdir()] == [".gitignore"], list(folder.iterdir()))
+    done = place.run([*command, "-k", "soon", "-n", "2", "--dist", "each"], "python", LOST="1", NAME="each")
+    tally.check("pytest-xdist: each worker's trace has a name of its own", "2 failed" in done.stdout and len(list(folder.glob("*.trace"))) == 2, done.stdout)
 
 
 def check_weak_of_pytest(tally: Tally, place: Place, command: list) -> None:
