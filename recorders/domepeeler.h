@@ -2106,7 +2106,8 @@ DOMEPEELER_CHECKED static inline unsigned domepeeler_stop(struct domepeeler *d, 
 
 /* Writes the text into a file of this name; and first, into one with `.lines` behind the name, how many lines it has, so that the
  * tools notice where the end of the file is lost, the notes, which lines domepeeler_delivered() wrote, and from where in your code each
- * line was recorded. Each appears whole, or what stood there stays. A pipe or a device has no such file beside it. Answers 1. */
+ * line was recorded. Each appears whole, or what stood there stays. A second recording that is saved under the same name takes the place of
+ * the first, without a word: give each that you want to keep its own. A pipe or a device has no such file beside it. Answers 1. */
 DOMEPEELER_CHECKED static inline unsigned domepeeler_save(struct domepeeler *d, const char *path) {
     if (!d) return 0;
     domepeeler_enter(d, NULL, 0);

@@ -347,8 +347,8 @@ class Recording:
     def save(self, path: Union[str, "os.PathLike[str]"]) -> None:
         """Writes the text into a file of this name; and first, into one with `.lines` behind the name, how many lines it has, so
         that the tools notice where the end of the file is lost, your notes, and from where in your code or log each line was recorded.
-        Each file appears whole, or not at all, in the place of one of that name: give each recording its own. A pipe or a device has none
-        beside it."""
+        Each file appears whole, or not at all. A second recording that is saved under the same name takes the place of the first, without a
+        word: give each that you want to keep its own. A pipe or a device has none beside it."""
         text = self.text().encode()
         name = os.fsdecode(path)
         if os.path.exists(name) and not os.path.isfile(name):

@@ -655,7 +655,8 @@ impl Recording {
 
     /// Writes the text into a file of this name; and first, into one with `.lines` behind the name, how many lines it has, so that
     /// the tools notice where the end of the file is lost, the notes, which lines `delivered` wrote, and from where in your code each
-    /// line was recorded. Each appears whole, or what stood there stays. A pipe or a device has no such file beside it.
+    /// line was recorded. Each appears whole, or what stood there stays. A second recording that is saved under the same name takes the place of
+    /// the first, without a word: give each that you want to keep its own. A pipe or a device has no such file beside it.
     pub fn save(&self, path: impl AsRef<Path>) -> io::Result<()> {
         let path = path.as_ref();
         if path.as_os_str().is_empty() {

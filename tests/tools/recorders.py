@@ -588,6 +588,14 @@ console.log(JSON.stringify([why.constructor.name, why.path === path, why.code, w
 """
 
 
+def check_save_is_described(tally: Tally) -> None:
+    """What each language says of save, where a user reads it, has that a second recording of one name takes the first one's place."""
+    for file in "domepeeler.py", "domepeeler.mjs", "javascript/domepeeler.d.mts", "domepeeler.rs", "domepeeler.h", "domepeeler.el":
+        words = " ".join(re.sub(r"^ *(///|\*|//)? *", "", line) for line in (ROOT / "recorders" / file).read_text().splitlines())
+        tally.check(f"{file}: what takes the place of what is said of save", "A second recording that is saved under the same name takes the place of the first, without a word"
+                    in words, file)
+
+
 def check_odd_paths(tally: Tally, recorder: Recorder, folder: Path) -> None:
     """An error of save shows a path so that it sends no bytes of its own to a terminal and begins no line: where its folder is not there,
     where it is a folder itself, and where what stands beside it is one."""
@@ -3708,6 +3716,7 @@ def main() -> None:
                 check_explain(tally, recorder, folder)
             check_weak(tally, recorder)
             check_stop(tally, recorder, folder)
+        check_save_is_described(tally)
         check_jupiter(tally, program, folder)
         check_python(tally)
         check_users(tally, program, folder)
