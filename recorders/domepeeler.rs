@@ -194,6 +194,7 @@ impl std::error::Error for Refused {}
 pub type Operation = (usize, u32);
 
 /// What the program says of a recording. Its words are those of the report, as `contents 2.1`.
+#[must_use = "it says whether the recording is right"]
 #[derive(Clone, Debug, PartialEq, Eq)]
 pub enum Verdict {
     /// One order of all elements follows every response. Here is the first such order, and what that may hide.

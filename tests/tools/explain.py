@@ -1723,6 +1723,10 @@ def finding(tally: Tally, program: str, folder: str) -> None:
     for name, asked, variables in ways:
         done = subprocess.run([EXPLAIN, *asked, str(good)], capture_output=True, text=True, env=here | variables)
         tally.check(f"the program asked: {name}", f"  a {name}\n" in done.stdout, done)
+    for tool in EXPLAIN, str(ROOT / "tools/judge_many"):
+        done = subprocess.run([tool, "--program", "", str(good)], capture_output=True, text=True, env=here)
+        tally.check(f"the program asked: none in the place of one without a name, {tool}", (done.returncode, done.stdout) == (2, "") and
+                    done.stderr.endswith(": error: argument --program: a program's name is not empty\n"), done)
 
 
 def killed(tally: Tally, folder: str) -> None:

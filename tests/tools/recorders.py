@@ -1551,6 +1551,10 @@ def check_python(tally: Tally) -> None:
             pass
     told = recording.warnings()[0]
     tally.check("py: calls that fail otherwise are told of as refused ones", told == f"4 {CALLS_REFUSED}KeyError: 'no name'", told)
+    try:
+        tally.check("py: a report is neither true nor false", not Recording(1).judge([sys.executable, "-c", 'print(\'{"verdict":"accepted","operations":0}\')']))
+    except TypeError as why:
+        tally.check("py: a report is neither true nor false", "by its `verdict` and `warnings`" in str(why), why)
     check_forks(tally)
     check_threads(tally)
 
@@ -2562,7 +2566,7 @@ fn there_is_no_program() {{
     let session = session();
     assert!(session.verdict_by("/nowhere/domepeeler").unwrap_err().starts_with("/nowhere/domepeeler cannot be run ("));
     assert_eq!(session.verdict_by("true").unwrap_err(), "true ended with status 0 and printed no report");
-    session.verdict().unwrap();
+    assert!(session.verdict().is_ok());
 }}
 
 #[test]
@@ -2753,7 +2757,7 @@ fn in_the_second() {{
     let first = reading(&["first"]);
     let second = reading(if std::env::var_os("FAILS").is_some() {{ &["lost"] }} else {{ &[] }});
     second.assert_accepted();
-    first.verdict().unwrap();
+    assert!(first.verdict().is_ok());
 }}
 
 #[test]
@@ -2784,7 +2788,7 @@ fn saved() {{
 fn judged() {{
     let recordings = [reading(&["judged"]), reading(&["judged"]), reading(&["judged"])];
     recordings[0].judge().unwrap();
-    recordings[1].verdict().unwrap();
+    assert!(recordings[1].verdict().is_ok());
     recordings[2].explain().unwrap();
     fails();
 }}
@@ -2957,7 +2961,7 @@ fn right_ways() {{
     reading(&[]).assert_accepted();
     reading(&[]).assert_weak();
     reading(&["lost"]).judge().unwrap();
-    reading(&["lost"]).verdict().unwrap();
+    assert!(reading(&["lost"]).verdict().is_ok());
     reading(&["lost"]).explain().unwrap();
     reading(&["lost"]).save("right.trace").unwrap();
     assert!(reading(&["lost"]).text().ends_with(": lost\n"));
@@ -3004,6 +3008,10 @@ def check_dropped(tally: Tally, program: str, folder: Path) -> None:
         **os.environ, "DOMEPEELER": program, "DOMEPEELER_EXPLAIN": EXPLAIN, "RUST_BACKTRACE": "0"})
     tally.check("Rust, dropped: all that are wrong fail, and no other", f"2 passed; {len(DROPPED_TOLD)} failed;" in done.stdout and
                 "test right_ways ... ok\n" in done.stdout and "test right_waiting ... ok\n" in done.stdout, done)
+    (place / "unused.rs").write_text(DROPPED.partition("#[test]")[0] + 'fn main() {\n    reading(&["lost"]).verdict().unwrap();\n}\n')
+    unused = subprocess.run(["rustc", "--edition", "2021", "-A", "unused_imports", "-o", "unused", "unused.rs"], cwd=place, capture_output=True, text=True)
+    tally.check("Rust, dropped: the compiler warns of a verdict that nobody looks at", unused.returncode == 0 and
+                "it says whether the recording is right" in unused.stderr, unused)
     for name, (words, failed) in DROPPED_TOLD.items():
         told = done.stdout.partition(f"---- bad_{name} stdout ----\n")[2].partition("\n----")[0]
         tally.check(f"Rust, dropped: {name}", f":\n{words}: end with recording.assert_accepted()" in told and
