@@ -407,6 +407,8 @@ First write into a file with `.lines' behind its name how many lines the
 text has, so that the tools notice where the end of FILE is lost, the
 notes, and which lines `domepeeler-delivered' wrote.  Each appears whole,
 or what stood there stays.
+A second recording that is saved under the same name takes the place of
+the first, without a word: give each that you want to keep its own.
 A pipe or a device has no such file beside it."
   (let ((coding-system-for-write 'utf-8-unix)
         (beside (concat file ".lines")))

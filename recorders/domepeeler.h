@@ -22,7 +22,8 @@
  *
  * Each call that a trace can't say answers 0 and leaves the recording as it was; domepeeler_why() then says why, and
  * domepeeler_full() whether it is that a limit of traces is reached: then end this session, and begin another. What was refused is
- * missing in the recording, so warnings and explanations begin with it.
+ * missing in the recording, so warnings and explanations begin with it. domepeeler_free() says on standard error where nothing has judged the
+ * recording, explained it, saved it or taken its text since something was recorded or refused.
  *
  * An editor with a server that orders changes (Jupiter and its kin) promises the weak list specification alone, and is right with
  * `refused 3` or more. For such a one ask, in the place of domepeeler_judge() and domepeeler_explain():
@@ -166,6 +167,7 @@ struct domepeeler {
     long process;   /* that began it */
     size_t refused; /* calls, but for limits where the response is not wrong as well, and what is not causal, which may come again */
     struct domepeeler_open open[DOMEPEELER_REPLICAS][DOMEPEELER_REPLICAS]; /* by replica and author: the last change that was refused so */
+    int is_new; /* whether something was recorded, or refused, since it was judged, explained, saved or taken as text */
     int stops, is_weak_enough, is_wrong; /* whether calls are judged, and how; whether one was wrong */
     int is_stopping;                     /* whether the call that is under way is to call back when it ends */
     void (*call_back)(const char *words, void *data);
@@ -253,6 +255,7 @@ static inline unsigned domepeeler_refuse(struct domepeeler *d, int full, const c
     domepeeler_keep_why(d, format, words);
     va_end(words);
     d->full = !!full;
+    if (full != 1) d->is_new = 1;
     if (full == 1 && !*d->limit) memcpy(d->limit, d->why, sizeof d->limit);
     if (full == 1 || !strncmp(d->why, "not causal: ", 12) || d->refused++) return 0;
     memcpy(d->first, d->why, sizeof d->first);
@@ -371,8 +374,24 @@ static inline struct domepeeler_abort *domepeeler_aborting(void) {
     return &last;
 }
 
+/* Says on standard error if nobody has what is freed, and so nobody has judged it. A session that is judged after each call lacks what was
+ * refused alone. */
+static inline void domepeeler_tell_unjudged(const struct domepeeler *d) {
+    size_t refused = d->refused;
+    for (int i = 0; i < DOMEPEELER_REPLICAS * DOMEPEELER_REPLICAS; i++)
+        refused += d->open[i / DOMEPEELER_REPLICAS][i % DOMEPEELER_REPLICAS].n > 0;
+    if (!d->is_new || d->is_wrong || (d->stops && !refused) || d->process != (long)getpid()) return;
+    const struct domepeeler_caller *last = d->called ? &d->callers[d->called - 1] : NULL;
+    int is_placed = last && last->file;
+    fprintf(stderr, "domepeeler: a recording is freed, and nothing has judged it, saved it or taken its text since something was %s",
+            d->stops ? "refused" : "recorded or refused");
+    if (is_placed) fprintf(stderr, "; its last line was recorded by %s:%d", last->file, last->line);
+    fprintf(stderr, *d->why ? "; the last call that failed: %s\n" : "%s\n", d->why);
+}
+
 static inline void domepeeler_free(struct domepeeler *d) {
     if (!d) return;
+    domepeeler_tell_unjudged(d);
     if (domepeeler_aborting()->recording == d) domepeeler_aborting()->recording = NULL;
     domepeeler_forget_callers(d, 0);
     free(d->callers);
@@ -682,6 +701,7 @@ static inline unsigned domepeeler_save_into(struct domepeeler *d, const char *pa
     int why = errno;
     if (file >= 0 && close(file) && is_written) is_written = 0, why = errno;
     errno = why;
+    d->is_new = d->is_new && !is_written;
     return is_written ? 1 : domepeeler_cannot_write(d, path);
 }
 
@@ -748,6 +768,7 @@ static inline unsigned domepeeler_save_now(struct domepeeler *d, const char *pat
     unsigned is_saved = is_room && domepeeler_save_both(d, path, beside.text, lines.text);
     free(beside.text);
     free(lines.text);
+    d->is_new = d->is_new && !is_saved;
     return is_saved;
 }
 
@@ -892,6 +913,7 @@ static inline unsigned domepeeler_line(struct domepeeler *d, int replica, const 
         domepeeler_put(d, domepeeler_name(d, response[i]));
     }
     domepeeler_put(d, "\n");
+    d->is_new = 1;
     memcpy(own->pasts[own->operations++], own->others, sizeof own->others);
     if (words[0] == 'i' || words[0] == 'd') own->changes[own->changed++] = own->operations; /* ins, del */
     return own->operations;
@@ -946,6 +968,7 @@ static inline unsigned domepeeler_receipt(struct domepeeler *d, int replica, int
     snprintf(line, sizeof line, "%d recv %d %lld\n", replica, author, n);
     if (!domepeeler_grow(d, strlen(line)) || !domepeeler_keep_caller(d)) return domepeeler_refuse(d, 0, "no memory");
     domepeeler_put(d, line);
+    d->is_new = 1;
     own->entries += 1;
     for (int other = 0; other < d->replicas && d->only < 0; other++) {
         unsigned seen = other == author ? (unsigned)n : d->of[author].pasts[n - 1][other];
@@ -1686,6 +1709,7 @@ static inline char *domepeeler_judge_now(struct domepeeler *d, const char *progr
     char *report = domepeeler_report(d, program);
     if (!report) return NULL;
     char *warnings = domepeeler_beside(d, strstr(report, "\"verdict\":\"accepted\"") != NULL);
+    if (warnings) d->is_new = 0;
     if (warnings) return domepeeler_with_warnings(d, report, warnings);
     free(report);
     domepeeler_fail(d, "no memory");
@@ -1700,6 +1724,7 @@ static inline unsigned domepeeler_passes_weak_now(struct domepeeler *d, const ch
     char *report = domepeeler_ask(d, is_short ? few : many, "DOMEPEELER to the program's path", "report", 'r');
     if (!report) return 0;
     const char *verdict = strchr(report, '\n');
+    if (verdict) d->is_new = 0;
     unsigned holds = strstr(report, "\nweak yes\n") != NULL, is_weak_alone = strstr(report, "\nstrong no\n") != NULL;
     if (!verdict) domepeeler_fail(d, "%s printed a report without a verdict", program);
     else if (!holds) domepeeler_fail_by_line(d, verdict + 1);
@@ -1844,6 +1869,7 @@ static inline char *domepeeler_explained(struct domepeeler *d, const char *expla
     words[count] = "-";
     char *said = refused.is_short ? NULL : domepeeler_ask(d, words, "DOMEPEELER_EXPLAIN to the tool's path", "words", 0);
     free(refused.text);
+    if (said) d->is_new = 0;
     return said ? domepeeler_with_ids(d, said) : NULL;
 }
 
@@ -1930,7 +1956,13 @@ static inline int domepeeler_full(struct domepeeler *d) {
 
 /* The trace; of one replica's log the text that merge.py takes. It stays until the next call, also one of another thread: ask for it when no
  * other thread records. */
-static inline const char *domepeeler_text(const struct domepeeler *d) { return d ? d->text : NULL; }
+static inline const char *domepeeler_text(const struct domepeeler *d) {
+    if (!d) return NULL;
+    pthread_mutex_lock(d->lock);
+    ((struct domepeeler *)(size_t)d)->is_new = 0; /* which is no part of what the text says */
+    pthread_mutex_unlock(d->lock);
+    return d->text;
+}
 
 /* How many lines the text has. A debugger's line N: if (domepeeler_lines(recording) == N) raise(SIGTRAP); */
 static inline size_t domepeeler_lines(const struct domepeeler *d) {
@@ -2074,7 +2106,8 @@ DOMEPEELER_CHECKED static inline unsigned domepeeler_stop(struct domepeeler *d, 
 
 /* Writes the text into a file of this name; and first, into one with `.lines` behind the name, how many lines it has, so that the
  * tools notice where the end of the file is lost, the notes, which lines domepeeler_delivered() wrote, and from where in your code each
- * line was recorded. Each appears whole, or what stood there stays. A pipe or a device has no such file beside it. Answers 1. */
+ * line was recorded. Each appears whole, or what stood there stays. A second recording that is saved under the same name takes the place of
+ * the first, without a word: give each that you want to keep its own. A pipe or a device has no such file beside it. Answers 1. */
 DOMEPEELER_CHECKED static inline unsigned domepeeler_save(struct domepeeler *d, const char *path) {
     if (!d) return 0;
     domepeeler_enter(d, NULL, 0);

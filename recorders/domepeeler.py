@@ -101,6 +101,13 @@ class NotCausal(Refused):
     """An update was applied at a replica that lacks a change which the update's author had seen."""
 
 
+class Report(Dict[str, Any]):
+    """The program's report. Whether it is there says nothing of the verdict, so it is neither true nor false."""
+
+    def __bool__(self) -> bool:
+        raise TypeError("a report says by its `verdict` and `warnings` whether the recording is right, and is neither true nor false itself")
+
+
 class NotAccepted(AssertionError):
     """With `stop`: the session is not accepted up to here, or with `weak` too, weak doesn't hold. Says what `explain` says."""
 
@@ -347,8 +354,8 @@ class Recording:
     def save(self, path: Union[str, "os.PathLike[str]"]) -> None:
         """Writes the text into a file of this name; and first, into one with `.lines` behind the name, how many lines it has, so
         that the tools notice where the end of the file is lost, your notes, and from where in your code or log each line was recorded.
-        Each file appears whole, or not at all, in the place of one of that name: give each recording its own. A pipe or a device has none
-        beside it."""
+        Each file appears whole, or not at all. A second recording that is saved under the same name takes the place of the first, without a
+        word: give each that you want to keep its own. A pipe or a device has none beside it."""
         text = self.text().encode()
         name = os.fsdecode(path)
         if os.path.exists(name) and not os.path.isfile(name):
@@ -378,10 +385,10 @@ class Recording:
         return self._refusals() + [self._with_nearest(told) for told in _hidden(self._lines)]
 
     @_alone
-    def judge(self, program: Optional[Words] = None, weak: bool = False) -> Dict[str, Any]:
+    def judge(self, program: Optional[Words] = None, weak: bool = False) -> Report:
         """The program's report on this recording, and as `warnings` what it may hide where it says `accepted`; with `weak`, where weak
         holds; and of any whether calls were refused. The program is the words that are given, that of $DOMEPEELER, or `domepeeler`."""
-        report = self._report(program)
+        report = Report(self._report(program))
         is_passing = report["verdict"] == "accepted" or (weak and report.get("weak") is True)
         report["warnings"] = self.warnings() if is_passing else self._refusals()
         return report

@@ -27,7 +27,8 @@
 //! `Recording::new(2)?.stop()?` has the session judged after each call that takes a list, and panics in the call that answered wrong;
 //! `stop_weak` in that after which weak doesn't hold.
 //!
-//! Where a test fails by itself, the trace of each recording that it drops then is saved, and standard error has the verdict.
+//! Where a test fails by itself, the trace of each recording that it drops then is saved, and standard error has the verdict. A recording that is
+//! dropped while nothing has judged it, saved it or taken its text panics; so does one of which something was recorded since.
 //!
 //! Where updates have vector clocks, `received_clock` writes the receipts, and refuses what is not causal.
 //!
@@ -46,7 +47,7 @@ use std::io::{self, Write as _};
 use std::panic::Location;
 use std::path::{Path, PathBuf};
 use std::process::{Command, Output, Stdio};
-use std::sync::atomic::{AtomicUsize, Ordering};
+use std::sync::atomic::{AtomicBool, AtomicUsize, Ordering};
 use std::sync::{Arc, Mutex};
 use std::time::Duration;
 
@@ -193,6 +194,7 @@ impl std::error::Error for Refused {}
 pub type Operation = (usize, u32);
 
 /// What the program says of a recording. Its words are those of the report, as `contents 2.1`.
+#[must_use = "it says whether the recording is right"]
 #[derive(Clone, Debug, PartialEq, Eq)]
 pub enum Verdict {
     /// One order of all elements follows every response. Here is the first such order, and what that may hide.
@@ -335,12 +337,31 @@ struct Seen {
     saved: AtomicUsize,
     told: AtomicUsize,
     passed: AtomicUsize,
+    /// Whether it was ever judged, saved or taken as text; and whether something was recorded, or refused, since then, or since it was copied.
+    was_handed_on: AtomicBool,
+    is_new: AtomicBool,
+    /// Why it was not judged, or what was refused, the last time that one of these failed and none went well since.
+    failed: Mutex<String>,
+}
+
+impl Seen {
+    /// Somebody has it now, who may judge it.
+    fn hand_on(&self) {
+        self.was_handed_on.store(true, Ordering::Relaxed);
+        self.is_new.store(false, Ordering::Relaxed);
+    }
+
+    fn fail(&self, why: &dyn Display) {
+        if let Ok(mut failed) = self.failed.lock() {
+            *failed = why.to_string();
+        }
+    }
 }
 
 impl Clone for Seen {
     fn clone(&self) -> Seen {
         let same = |count: &AtomicUsize| AtomicUsize::new(count.load(Ordering::Relaxed));
-        Seen { saved: same(&self.saved), told: same(&self.told), passed: same(&self.passed) }
+        Seen { saved: same(&self.saved), told: same(&self.told), passed: same(&self.passed), ..Seen::default() }
     }
 }
 
@@ -371,12 +392,18 @@ pub struct Recording {
 
 /// Where a thread panics, the trace of a recording that is dropped is saved as `assert_accepted` saves it, if it has entries and was not saved;
 /// and standard error tells the verdict and the path, unless the panic itself does. Nothing may panic then, as that would end the program.
-/// Else it panics where something was recorded after `assert_accepted` or the like, and was not saved: nothing has judged that.
+/// Else it panics where something was recorded after `assert_accepted` or the like, and was not saved: nothing has judged that. So it does where
+/// nobody has judged it, saved it or taken its text since something was recorded or refused; a copy, only since it was made. Where the session was
+/// judged after each call, only what was refused counts.
 impl Drop for Recording {
     fn drop(&mut self) {
         let (passed, saved) = (self.seen.passed.load(Ordering::Relaxed), self.seen.saved.load(Ordering::Relaxed));
         if !std::thread::panicking() && passed != 0 && passed != self.lines() && saved != self.lines() && self.goal.is_none() {
             panic!("something was recorded after the recording was judged, so it was not judged: move the assertion behind it, or repeat it");
+        }
+        let is_judged = self.stopped.is_some() || self.goal.is_some() && self.refusals.told().is_empty();
+        if !std::thread::panicking() && self.seen.is_new.load(Ordering::Relaxed) && !is_judged {
+            panic!("{}", self.unjudged());
         }
         let is_told = self.stopped.is_some() || self.seen.told.load(Ordering::Relaxed) == self.lines();
         let last = match self.callers.last() {
@@ -617,6 +644,7 @@ impl Recording {
 
     /// The trace; of one replica's log the text that merge.py takes.
     pub fn text(&self) -> &str {
+        self.seen.hand_on();
         &self.lines
     }
 
@@ -628,7 +656,8 @@ impl Recording {
 
     /// Writes the text into a file of this name; and first, into one with `.lines` behind the name, how many lines it has, so that
     /// the tools notice where the end of the file is lost, the notes, which lines `delivered` wrote, and from where in your code each
-    /// line was recorded. Each appears whole, or what stood there stays. A pipe or a device has no such file beside it.
+    /// line was recorded. Each appears whole, or what stood there stays. A second recording that is saved under the same name takes the place of
+    /// the first, without a word: give each that you want to keep its own. A pipe or a device has no such file beside it.
     pub fn save(&self, path: impl AsRef<Path>) -> io::Result<()> {
         let path = path.as_ref();
         if path.as_os_str().is_empty() {
@@ -642,7 +671,26 @@ impl Recording {
             self.save_both(path, Path::new(&beside), &self.beside())?;
         }
         self.seen.saved.store(self.lines(), Ordering::Relaxed);
+        self.seen.hand_on();
         Ok(())
+    }
+
+    /// What is wrong with dropping it, in words.
+    fn unjudged(&self) -> String {
+        let mut told = match (self.goal.is_some(), self.seen.was_handed_on.load(Ordering::Relaxed)) {
+            (true, _) => self.refusals.told().join("\n"),
+            (_, true) => "something was recorded, or refused, since the recording was judged, saved or taken as text, and nothing has judged that".to_string(),
+            _ => "nothing has judged this recording, saved it or taken its text, so nobody knows whether it is right".to_string(),
+        };
+        told += ": end with recording.assert_accepted()";
+        let here = std::env::current_dir().unwrap_or_default();
+        if let Some(last) = self.callers.last() {
+            told += &format!(" behind {}", place(last, &here));
+        }
+        match self.seen.failed.lock() {
+            Ok(failed) if !failed.is_empty() => format!("{told}. The last call failed: {failed}"),
+            _ => told,
+        }
     }
 
     /// Writes the text, and what stands beside it; again where another process has put its own there meanwhile, beside this trace.
@@ -677,6 +725,19 @@ impl Recording {
 
     /// The report of the program at this path.
     pub fn judge_by(&self, program: &str) -> Result<String, String> {
+        self.heard(self.judged_by(program))
+    }
+
+    /// What was answered of the recording, which somebody has by that; or why not.
+    fn heard<T>(&self, answer: Result<T, String>) -> Result<T, String> {
+        match &answer {
+            Ok(_) => self.seen.hand_on(),
+            Err(why) => self.seen.fail(why),
+        }
+        answer
+    }
+
+    fn judged_by(&self, program: &str) -> Result<String, String> {
         let done = self.ask(program, &["verdict", "--json", "-"], "DOMEPEELER to the program's path", "no report")?;
         if !done.stdout.starts_with(b"{") {
             return Err(ended(program, &done, "no report"));
@@ -699,7 +760,7 @@ impl Recording {
 
     /// The verdict of the program at this path.
     pub fn verdict_by(&self, program: &str) -> Result<Verdict, String> {
-        let mut verdict = self.verdict_alone(program)?;
+        let mut verdict = self.heard(self.verdict_alone(program))?;
         if let Verdict::Accepted { warnings, .. } = &mut verdict {
             *warnings = self.warnings()?;
         }
@@ -736,7 +797,7 @@ impl Recording {
             Ok(verdict) => verdict,
             Err(why) => panic!("{why}"),
         };
-        let said = self.explained(&explainer(), goal);
+        let said = self.explained_by(&explainer(), goal);
         let untold = |why| format!("The recording is not accepted: {verdict}. There is no explanation: {why}");
         self.stopped = Some(said.map_or_else(untold, |said| said.trim_end().to_string()));
         self.go_on();
@@ -832,6 +893,10 @@ impl Recording {
     }
 
     fn explained(&self, explainer: &str, goal: &[&str]) -> Result<String, String> {
+        self.heard(self.explained_by(explainer, goal))
+    }
+
+    fn explained_by(&self, explainer: &str, goal: &[&str]) -> Result<String, String> {
         let last = &self.deliveries[self.deliveries.len().saturating_sub(MOST_DELIVERED)..];
         let ranges: Vec<String> = last.iter().map(|(from, to)| format!("{from}-{to}")).collect();
         let mut words = [goal, &["--language", LANGUAGE]].concat();
@@ -992,6 +1057,7 @@ impl Recording {
 
     #[track_caller]
     fn line(&mut self, words: fmt::Arguments) {
+        self.seen.is_new.store(true, Ordering::Relaxed);
         writeln!(self.lines, "{words}").expect("a String takes each line");
         self.callers.push(Location::caller());
     }
@@ -1015,9 +1081,16 @@ impl Recording {
 
     /// What a call answers that records. If it is refused, that is remembered.
     fn noted<T>(&mut self, done: Result<T, Refused>) -> Result<T, Refused> {
-        if let Err(why) = &done {
-            let is_wrong = self.is_wrong(why);
-            self.refusals.note(why, is_wrong);
+        match &done {
+            Ok(_) => self.seen.fail(&""),
+            Err(why) => {
+                let is_wrong = self.is_wrong(why);
+                self.refusals.note(why, is_wrong);
+                self.seen.fail(why);
+                if is_wrong || !why.is_full() {
+                    self.seen.is_new.store(true, Ordering::Relaxed);
+                }
+            }
         }
         done
     }

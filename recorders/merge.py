@@ -7,7 +7,8 @@ same logs have the same report.
 
 A file with `.lines` behind a log's name may say how many lines were saved, and from where in your code each was recorded. A log that has
 fewer lines, or more, is warned of, and its places are left out. Such a file is written beside TRACE too; it counts the lines that were
-saved, so that the tools tell of lost ones and of those that came later."""
+saved, so that the tools tell of lost ones and of those that came later. A log that was last written more than an hour before the first of the
+others is warned of: it may be of an earlier run. Keep the times of files when you copy logs."""
 import os
 import sys
 
@@ -50,6 +51,7 @@ MOST_SHOWN = 120  # letters of a line
 MOST_NOTES = 20  # as many as a recording takes
 MOST_REFUSED = 20  # lines that are taken
 MOST_TRIES = 100  # of writing where another process writes too
+MOST_APART = 3600  # seconds between the last writings of two logs of one session, of which nothing is said
 ABSENT = errno.ENOENT, errno.ENAMETOOLONG  # what stands beside a log is not there
 RECEIPT = "recv [0-9]{1,7} [0-9]{1,7}"
 ENTRIES = {"trace 1": re.compile("[0-9]+ (%s|(ins|del|read) .*)" % RECEIPT, re.ASCII),
@@ -146,6 +148,7 @@ class Log:
 
     def __init__(self, path):
         self.path, self.text = path, read(path)
+        self.written = os.stat(path).st_mtime
         self.count, self.unsure = self.text.count("\n"), "holds no line count"  # of what stands beside it; or nothing
         try:
             whole = content(path + SIDE).split(b"\n")[:-1]
@@ -171,6 +174,13 @@ class Log:
         """By number of a line from where it was recorded; of two the first counts."""
         found = [place.groups() for place in map(PLACE.fullmatch, self.beside) if place]
         return dict(reversed(found))
+
+
+def stale(logs):
+    """The logs that were written last long before others, each with the first of these that was."""
+    logs = sorted(logs, key=lambda log: log.written)
+    gaps = [at for at in range(1, len(logs)) if logs[at].written - logs[at - 1].written > MOST_APART]
+    return [(log, logs[gaps[-1]]) for log in logs[:gaps[-1]]] if gaps else []
 
 
 def beside_trace(logs, lines):
@@ -340,6 +350,10 @@ def main():
                 % (log.path, log.count, log.path, SIDE, log.saved))
         for line in log.refused:  # which standard output has no place for
             say("warning: %s: %s" % (log.path, shown(line[len(b"refused "):].decode("utf-8", "replace"))))
+    for log, other in stale(logs):
+        hours = int((other.written - log.written) // 3600)
+        say("warning: %s was last written more than %s before %s was, so it may be of an earlier run"
+            % (log.path, "an hour" if hours == 1 else "%d hours" % hours, other.path))
     try:
         lines = lines_of([log.text for log in logs], paths)
     except Unmerged as why:

@@ -97,7 +97,8 @@ export class Recording {
 
   /** Writes the text into a file of this name; and first, into one with `.lines` behind the name, how many lines it has, so that the
    * tools notice where the end of the file is lost, your notes, and from where in your code or log each line was recorded. Each file
-   * appears whole, or not at all. A pipe or a device has none beside it. An error has Node's own as its `cause`. */
+   * appears whole, or not at all. A second recording that is saved under the same name takes the place of the first, without a word: give each
+   * that you want to keep its own. A pipe or a device has none beside it. An error has Node's own as its `cause`. */
   save(path: string | URL): Promise<void>
 
   /** What an accepted verdict on this recording may hide: that replicas end differently, say, or that nothing was recorded. */

@@ -12,8 +12,11 @@
 // saved trace. What hooks record behind the body is judged too; what is recorded or refused later still, as by a promise that nobody
 // awaits, fails the process, and so does a test that ends the process before it is judged. Where the test fails by itself, its
 // diagnostics have them, of an accepted recording too. Where it passes, the trace that it saved before is removed, and what the verdict
-// may hide stands in its diagnostics. For a property of fast-check or another library, let the property end with:
+// may hide stands in its diagnostics. But that a call was refused fails it; behind its hooks, if an update was not causal and has not come by
+// then. For a property of fast-check or another library, let the property end with:
 //     await accepted(recording, "failed.trace") // which judges what is recorded by then
+//
+// It is handed to test() itself: a test that answers it, as by `() => recorded(2, ...)`, would run nothing, and fails.
 //
 // With { stop: true } as a last argument of recorded() the test fails in the call that answered wrong, and its error's stack begins there.
 //
@@ -26,7 +29,10 @@ import { NotAccepted as Stopped, Recording } from "./domepeeler.mjs"
 
 const FOLDER = "failed_traces", MOST_LETTERS = 150
 const WEAK_ALONE = "weak holds, strong doesn't"
+const NEVER_CAME = "a call was refused, and what it says never came: " // so the recorder says of what may come still
 const FIRST_LINES = 2 // of each trace: its version, and how many replicas there are
+const NEVER_CALLED = "recorded() makes a function for test(), and this one was never called, so nothing was recorded: write " +
+  "test(name, recorded(2, (recording) => ...)), without `() =>` before it"
 const named = new Map() // by name of a file: how many tests of this process have had it
 const warned = new Set() // paths of properties of which a recording has hidden something
 const watched = new Map() // by recording: its test, and its state when it was judged, if it was
@@ -52,17 +58,18 @@ export class NotAccepted extends Stopped {
 }
 
 /** A function for test(): it begins a recording of so many replicas, hands it to the body, and has it judged when that has ended; with
- * `weak` it passes where weak holds; with `stop` it fails in the call that answered wrong. */
+ * `weak` it passes where weak holds; with `stop` it fails in the call that answered wrong. A promise of it is broken: who awaits it has not
+ * called it. */
 export function recorded(replicas, body, { folder = FOLDER, weak = false, stop = false } = {}) {
-  return async (context) => {
+  const run = async (context) => {
     const recording = new Recording(replicas, null, { stop, weak: stop && weak })
     const test = context.fullName ?? context.name // with the suites' names where Node tells them
     watched.set(recording, { test })
     const path = resolve(folder, fileName(test))
     const tell = (told) => `${test}: ${told}`.split("\n").forEach((line) => context.diagnostic(line)) // TAP shows each as one line
-    const judge = async () => {
+    const judge = async (isOver) => {
       const state = stateOf(recording)
-      const { told, warnings, isAlone } = await judged(recording, path, weak)
+      const { told, warnings, isAlone } = await judged(recording, path, weak, { isOver })
       if (told || state.lines === FIRST_LINES) watched.delete(recording) // a test that fails has told enough
       if (told) throw new NotAccepted(told)
       if (isAlone) tell(WEAK_ALONE)
@@ -74,13 +81,16 @@ export function recorded(replicas, body, { folder = FOLDER, weak = false, stop =
     try {
       await body(recording, context)
     } catch (why) {
-      tell((await judged(recording, path, weak, true, why?.message)).told)
+      tell((await judged(recording, path, weak, { hasFailed: true, known: why?.message })).told)
       watched.delete(recording)
       throw why
     }
-    await judge()
-    context.after?.(() => isSame(stateOf(recording), watched.get(recording)?.state) || judge()) // the last of the hooks
+    await judge(!context.after)
+    const isJudged = (state) => isSame(stateOf(recording), state) && !state.refusals
+    context.after?.(() => isJudged(watched.get(recording)?.state) || judge(true)) // the last of the hooks
   }
+  const neverCalled = new Error(NEVER_CALLED) // its stack has the line that made it
+  return Object.assign(run, { then: (kept, broken) => Promise.reject(neverCalled).then(kept, broken) })
 }
 
 /** A promise that is kept where the recording is accepted, or with `weak` where weak holds; else it is saved, and the error says what is
@@ -102,17 +112,20 @@ function isSame(one, other) {
   return one.lines === other?.lines && one.refusals === other?.refusals
 }
 
-// The verdict on a recording in words, if these aren't known, which is then saved; nothing where it passes, unless its test has failed by
-// itself. And of what a verdict that passes warns, and whether it passes since weak holds, though strong doesn't.
-async function judged(recording, path, weak, hasFailed = false, known = "") {
+// The verdict on a recording in words, if these aren't known, which is then saved; nothing where it passes and no call was refused, unless its
+// test has failed by itself. Until all is over, an update that waits for another may come. And of what a verdict that passes warns, and whether
+// it passes since weak holds, though strong doesn't.
+async function judged(recording, path, weak, { hasFailed = false, known = "", isOver = true } = {}) {
   let told, warnings = []
   try {
     const report = await recording.judge(null, { weak }), isAccepted = report.verdict === "accepted"
     const isPassing = isAccepted || (weak && report.weak === true)
     warnings = report.warnings
-    if (isPassing && !hasFailed) return { told: "", warnings, isAlone: !isAccepted }
+    const refused = recording.refusals().filter((line) => isOver || !line.startsWith(NEVER_CAME))
+    if (isPassing && !hasFailed && !refused.length) return { told: "", warnings, isAlone: !isAccepted }
     const verdict = isAccepted ? "accepted" : isPassing ? `${report.verdict}, and weak holds` : `not accepted: ${report.verdict}`
     told = await recording.explain(null, { weak }).catch((why) => `The recording is ${verdict}. There is no explanation: ${why.message}`)
+    if (isPassing && refused.length) told = `${isAccepted ? "accepted" : WEAK_ALONE}, but this is no pass: ${refused[0]}\n\n${told}`
   } catch (why) {
     told = `The recording was not judged: ${why.message}`
   }

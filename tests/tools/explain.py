@@ -69,12 +69,13 @@ def stop(line: int, doing: str, *others: int, together: int = 0) -> str:
 
 
 UNSHOWN = "let each replica read at the end"
+NO_PASS = "accepted, but this is no pass: "
 # By name: how many replicas, the entries, and lines that stand in the explanation one after the other, from the first.
 WORDS = [
     ("accepted", 2, "0 ins a 0 : a|1 recv 0 1|1 ins b 1 : a b|0 recv 1 1|0 read : a b",
      "accepted: all 3 responses fit one order of the elements.||One order that fits all responses (deleted elements included)|a b||"
      "The list specifications|strong and weak hold"),
-    ("accepted, nothing", 1, "", "accepted, with a warning: there was no response to judge.||What this verdict may hide|"
+    ("accepted, nothing", 1, "", f"{NO_PASS}nothing was recorded: the trace has no entry, so the verdict says nothing of an editor||What this verdict may hide|"
      "nothing was recorded: the trace has no entry, so the verdict says nothing of an editor||One order that fits all responses "
      "(deleted elements included)|(there are no elements)||The list specifications|strong and weak hold"),
     ("two concurrent inserts", 2, "0 ins a 0 : a|1 ins b 0 : b|0 recv 1 1|1 recv 0 1|0 read : a b|1 read : b a",
@@ -851,7 +852,8 @@ def words(tally: Tally, program: str) -> None:
         tally.check(f"words: {name}", missing is None and not got.err, f"no `{missing}` in\n{got.out.decode()}{got.err}")
         is_debugged = got.out.split()[0].rstrip(b":") in (b"refused", b"contents", b"position")
         tally.check(f"in a debugger: {name}", (b"\nIn a debugger\n" in got.out) == is_debugged, got)
-        tally.check(f"status: {name}", got.status == run(program, ["verdict", "-"], trace).status, got.status)
+        wanted = run(program, ["verdict", "-"], trace).status if entries else 2  # of nothing that was recorded nothing was judged
+        tally.check(f"status: {name}", got.status == wanted, got.status)
 
 
 # Entries of a trace of two replicas, and words on receipts that must not be said of them.
@@ -1085,15 +1087,15 @@ def warned(got: Ended) -> list:
 
 
 def warnings(tally: Tally, program: str, folder: str) -> None:
-    """What an accepted recording may hide is said, and the status stays; another verdict hides nothing but a cut."""
+    """What an accepted recording may hide is said, and the status stays, unless not all was judged; another verdict hides nothing but a cut."""
     for name, replicas, entries, wanted in WARNED:
         trace = text_of(replicas, entries).encode()
         got = explain(program, ["-"], trace)
         tally.check(f"warnings: {name}", warned(got) == [line for line in wanted.split("|") if line], got)
-        begun = "accepted, with a warning: " if wanted and "|" not in wanted else "accepted, with " if wanted else "accepted: "
+        begun = NO_PASS if not entries else "accepted, with a warning: " if wanted and "|" not in wanted else "accepted, with " if wanted else "accepted: "
         is_first = got.out.decode().splitlines()[2] == "What this verdict may hide"
-        tally.check(f"warnings: {name}, accepted", got.out.decode().startswith(begun) and is_first == bool(wanted) and got.status == 0
-                    and not got.err, got)
+        tally.check(f"warnings: {name}, accepted", got.out.decode().startswith(begun) and is_first == bool(wanted) and
+                    got.status == (0 if entries else 2) and not got.err, got)
     for example in sorted(ROOT.glob("examples/*.trace")):
         tally.check(f"warnings: none of {example.name}", not warned(explain(program, [str(example)])))
     for entries, status in ("0 ins a 0 : a|1 recv 0 1|1 read : a", 0), ("0 ins a 0 : a|1 recv 0 1|1 read :", 1):
@@ -1103,8 +1105,9 @@ def warnings(tally: Tally, program: str, folder: str) -> None:
         for text, wanted in BESIDE:
             side.write_bytes(text)
             got = explain(program, [str(path)])
-            tally.check(f"warnings: {text[:9]} beside a trace", warned(got) == [wanted.format(side)] * bool(wanted) and got.status == status
-                        and not got.err, got)
+            is_lacking = " were saved" in wanted
+            tally.check(f"warnings: {text[:9]} beside a trace", warned(got) == [wanted.format(side)] * bool(wanted) and
+                        got.status == (2 if is_lacking and not status else status) and not got.err, got)
         got = explain(program, ["-"], path.read_bytes())
         tally.check("warnings: no file beside standard input", not warned(got), got)
         side.unlink()
@@ -1302,7 +1305,7 @@ def saved(tally: Tally, program: str, folder: str) -> None:
         path.write_bytes(b"".join(lines[:left]))
         got = explain(program, [str(path)])
         wanted = f"the trace may have been cut at a line's end: it has {left} lines, and {path}.lines says that {len(lines)} were saved"
-        tally.check(f"saved: {left} lines are left", wanted in warned(got) and got.status == 0, got)
+        tally.check(f"saved: {left} lines are left", wanted in warned(got) and got.status == 2 and got.out.decode().startswith(f"{NO_PASS}{wanted}\n"), got)
     recording.read(1, [])
     recording.save(str(path))
     smaller = path.with_name("smaller.trace")
@@ -1794,6 +1797,10 @@ def finding(tally: Tally, program: str, folder: str) -> None:
     for name, asked, variables in ways:
         done = subprocess.run([EXPLAIN, *asked, str(good)], capture_output=True, text=True, env=here | variables)
         tally.check(f"the program asked: {name}", f"  a {name}\n" in done.stdout, done)
+    for tool in EXPLAIN, str(ROOT / "tools/judge_many"):
+        done = subprocess.run([tool, "--program", "", str(good)], capture_output=True, text=True, env=here)
+        tally.check(f"the program asked: none in the place of one without a name, {tool}", (done.returncode, done.stdout) == (2, "") and
+                    done.stderr.endswith(": error: argument --program: a program's name is not empty\n"), done)
 
 
 def killed(tally: Tally, folder: str) -> None:
@@ -2260,8 +2267,46 @@ def weak_files(tally: Tally, program: str, folder: str) -> None:
                     report[3] == "weak no", report)
     Path(f"{path}.lines").write_text("40\n")
     got = explain(program, ["--weak", str(path)])
-    tally.check("weak: a cut trace is warned of", got.status == 0 and got.out.startswith(b"weak holds, strong doesn't, with a warning: ") and
-                b"the trace may have been cut at a line's end" in got.out, got)
+    tally.check("weak: a cut trace is no pass", got.status == 2 and got.out.startswith(
+        b"weak holds, strong doesn't, but this is no pass: the trace may have been cut at a line's end") and
+                explain(program, [str(path)]).status == 1, got)
+
+
+# By name: the trace's entries, what stands beside it, and what its first line says of it, for which the status is 2, if that is not that of the
+# verdict; the last number is the verdict's.
+NOT_ALL_JUDGED = [
+    ("cut", "0 ins a 0 : a|1 recv 0 1|1 read : a", "9\n", "the trace may have been cut at a line's end: it has 5 lines, and {} says that 9 were saved", 0),
+    ("longer", "0 ins a 0 : a|1 recv 0 1|1 read : a", "4\n", "the trace has 5 lines, and {} says that 4 were saved: is that file of another trace?", 0),
+    ("a refused call", "0 ins a 0 : a|1 recv 0 1|1 read : a", "5\nrefused what it says\n", "what it says", 0),
+    ("both", "0 ins a 0 : a|1 recv 0 1|1 read : a", "4\nrefused what it says\n", "the trace has 5 lines, and {} says that 4 were saved: is that file of another trace?", 0),
+    ("nothing recorded", "", "2\n", "nothing was recorded: the trace has no entry, so the verdict says nothing of an editor", 0),
+    ("nothing left", "", "5\n", "the trace may have been cut at a line's end: it has 2 lines, and {} says that 5 were saved", 0),
+    ("nobody knows whether it is whole", "0 ins a 0 : a|1 recv 0 1|1 read : a", "many\n", "", 0),
+    ("whole", "0 ins a 0 : a|1 recv 0 1|1 read : a", "5\n", "", 0),
+    ("a note", "0 ins a 0 : a|1 recv 0 1|1 read : a", "5\nnote refused call\n", "", 0),
+    ("wrong and cut", "0 ins a 0 : a|1 recv 0 1|1 read :", "9\n", "", 1),
+    ("wrong and a refused call", "0 ins a 0 : a|1 recv 0 1|1 read :", "5\nrefused what it says\n", "", 1),
+    ("faulty and cut", "0 inz a 0 : a|1 recv 0 1", "9\n", "", 2),
+]
+
+
+def not_all_judged(tally: Tally, program: str, folder: str) -> None:
+    """A trace that passes, and of which not all was judged, ends with 2, and the first line says why; judge_many of it alone ends so too. Of any
+    other verdict the status stays. What a recorder tells of itself, which warns by itself, leaves the status too."""
+    path = Path(folder, "unjudged.trace")
+    for name, entries, beside, why, status in NOT_ALL_JUDGED:
+        path.write_text(text_of(2, entries))
+        Path(f"{path}.lines").write_text(beside)
+        got, many = explain(program, [str(path)]), run(str(ROOT / "tools/judge_many"), ["--program", program, str(path)])
+        first = got.out.decode().split("\n")[0]
+        tally.check(f"not all judged: {name}", got.status == (2 if why else status) and (
+            first == NO_PASS + why.format(f"{path}.lines") if why else NO_PASS not in got.out.decode()), got)
+        tally.check(f"not all judged: {name}, as judge_many ends", status == 1 or many.status == got.status, many)
+        page = explain(program, ["--html", f"{folder}/unjudged.html", str(path)])
+        tally.check(f"not all judged: {name}, with a page", page == got and (not why or "but this is no pass</span>:" in Path(folder, "unjudged.html").read_text()), page)
+    told = [explain(program, [*words, "-"], text_of(2, "").encode()).status for words in ([], ["--language", "c"])]
+    fine = explain(program, ["--language", "c", "--refused", "what it says", "-"], text_of(1, "0 ins a 0 : a").encode())
+    tally.check("not all judged: a recorder that asks", (told, fine.status) == ([2, 0], 0) and fine.out.startswith(b"accepted, with a warning: "), fine)
 
 
 def main() -> None:
@@ -2294,6 +2339,7 @@ def main() -> None:
         files(tally, program, folder)
         finding(tally, program, folder)
         weak(tally, program, folder)
+        not_all_judged(tally, program, folder)
         others(tally, folder)
         killed(tally, folder)
         contradicted(tally, folder)

@@ -711,7 +711,7 @@ def refused_calls(tally: Tally, program: str, folder: str) -> None:
     page = f"{folder}/page.html"
     got = run(EXPLAIN, ["--program", program, "--html", page, f"{folder}/zz.trace"])
     said = got.out.decode()
-    tally.check("refused calls: explain", got.status == 0 and said.startswith("accepted, with ") and f"\nWhat this verdict may hide\n  {NEVER_CAME}\n" in said, got)
+    tally.check("refused calls: explain", got.status == 2 and said.startswith(f"accepted, but this is no pass: {NEVER_CAME}\n") and f"\nWhat this verdict may hide\n  {NEVER_CAME}\n" in said, got)
     tally.check("refused calls: the page", "what it says never came" in Path(page).read_text())
     said = run(EXPLAIN, ["--program", program, f"{folder}/bad.trace"]).out.decode()
     tally.check("refused calls: explain, of what is wrong by itself", said.startswith("contents 0.1: ") and
@@ -910,7 +910,7 @@ def which_traces(tally: Tally, program: str, folder: str, other: str) -> None:
     write(other, {"linked.trace": "0 ins a 0 : a|0 read :"})
     os.symlink(other, f"{folder}/link")
     os.symlink(folder, f"{other}/back")
-    os.symlink(f"{folder}/missing", f"{folder}/to_nothing")
+    os.symlink(f"{folder}/missing", f"{folder}/to_nothing.log")
     got = judge(program, ["--json", folder])
     files = sorted(json.loads(line)["file"] for line in got.out.decode().splitlines())
     tally.check("which traces: links and endings", got.status == 1 and files == [f"{folder}/a.trace", f"{folder}/deep/BAD.TRACE",
@@ -921,6 +921,58 @@ def which_traces(tally: Tally, program: str, folder: str, other: str) -> None:
     got = judge(program, [folder, f"{folder}/empty"])
     tally.same("which traces: an empty folder beside a full one", got,
                Ended(2, b"", f"domepeeler-judge-many: there is no *.trace file below {folder}/empty\n".encode()))
+
+
+# By name: what the file holds, and what is said of it: as a row that is failed, as a warning, or nothing. All lie beside x.trace, which has one
+# insert; those that begin with a link's arrow lead to nothing.
+A_TRACE, ANOTHER_TRACE = "trace 1\nreplicas 1\n0 ins a 0 : a\n", "trace 1\nreplicas 1\n0 read :\n"
+STOPPED_RECORDER = "a recorder was stopped while it wrote this, so a trace may be lacking: look whether it is, then remove this"
+PASSED_OVER = "it begins as a trace, and was not judged, since its name does not end in .trace"
+LEFT_OVER = {
+    ".domepeeler-0a1b2c": (ANOTHER_TRACE, "failed", STOPPED_RECORDER), ".domepeeler-17-3": ("3\nlanguage c\n", "failed", STOPPED_RECORDER),
+    ".domepeeler-18-0": ("", "failed", STOPPED_RECORDER), ".merge-00ff": (ANOTHER_TRACE[:12], "failed", STOPPED_RECORDER),
+    ".domepeeler-19-99": ("<!DOCTYPE html>\n", "warning", "a tool was stopped while it wrote this, which is no trace"),
+    "x.trace.1": (ANOTHER_TRACE, "failed", PASSED_OVER), "x.trace-20261130": ("trace 2\nreplicas 1\n", "failed", PASSED_OVER),
+    "x.trace.2": (A_TRACE, "warning", PASSED_OVER), "x.trace~": (ANOTHER_TRACE, "warning", PASSED_OVER), "x.trace.bak": (A_TRACE, "warning", PASSED_OVER),
+    "y.trace.part": (ANOTHER_TRACE, "failed", PASSED_OVER), "X.TRACE.1": (ANOTHER_TRACE, "failed", PASSED_OVER),
+    "x.trace.txt": ("what x.trace is about\n", "", ""), "x.trace.1.lines": ("4\n", "", ""), "traces.md": (A_TRACE, "", ""),
+    "night2": (None, "failed", "it is a link that leads nowhere, so traces behind it may be lacking"),
+    "latest.log": (None, "warning", "it is a link that leads nowhere"),
+}
+
+
+def left_over(tally: Tally, program: str, folder: str) -> None:
+    """What a recorder that was stopped has left, what looks like a trace and is passed over, and links that lead nowhere, are told of: as failed
+    where a trace may be lacking, and else as a warning; a file that is only being written is not."""
+    for name, (text, kind, words) in LEFT_OVER.items():
+        place = tempfile.mkdtemp(dir=folder)
+        Path(place, "x.trace").write_text(A_TRACE)
+        if text is None:
+            os.symlink("/nowhere/at/all", f"{place}/{name}")
+        else:
+            Path(place, name).write_text(text)
+            os.utime(Path(place, name), (0, 0))
+        got, junit = judge(program, ["--json", place]), judge(program, ["--junit", f"{folder}/junit.xml", place])
+        rows = {Path(row["file"]).name: row for row in map(json.loads, got.out.decode().splitlines())}
+        row = rows.pop(name, {})
+        said = f"domepeeler-judge-many: {place}/{name}: {'warning: ' * (kind == 'warning')}{words}\n" if kind else ""
+        tally.check(f"left over: {name}", got.status == junit.status == (2 if kind == "failed" else 0) and got.err.decode() == said and
+                    (row.get("verdict"), row.get("error")) == ((kind, words) if kind == "failed" else (None, None)) and
+                    [one["verdict"] for one in rows.values()] == ["accepted"], got)
+        errors = [case.get("name") for case in xml.parse(f"{folder}/junit.xml").getroot().iter("testcase") if case.find("error") is not None]
+        tally.check(f"left over: {name}, in the table and in JUnit's form", errors == [name] * (kind == "failed") and
+                    (b"\n2 traces: 1 accepted, 1 failed\n" if kind == "failed" else b"\n1 trace: 1 accepted\n") in junit.out, (errors, junit))
+        if kind == "failed":
+            Path(place, "x.trace").unlink()
+            alone = judge(program, ["--json", place])
+            tally.check(f"left over: {name} alone", alone.status == 2 and json.loads(alone.out)["error"] == words, alone)
+    place = Path(tempfile.mkdtemp(dir=folder))
+    (place / "x.trace").write_text(A_TRACE)
+    (place / ".domepeeler-5").write_text(A_TRACE)
+    writing = subprocess.Popen(["sh", "-c", f"sleep 0.7; mv {place}/.domepeeler-5 {place}/x.trace"])
+    got = judge(program, ["--json", str(place)])
+    writing.wait()
+    tally.check("left over: what is only being written", got.status == 0 and got.err == b"" and len(got.out.splitlines()) == 1, got)
 
 
 def beside_elsewhere(tally: Tally, program: str, folder: str) -> None:
@@ -957,7 +1009,7 @@ def beside_links(tally: Tally, program: str, folder: str, other: str) -> None:
         row = json.loads(got.out)
         tally.check(f"links: what stands {what}", (got.status, row["verdict"]) == (status, "failed" if status else "accepted"), got)
         told = subprocess.run([EXPLAIN, "--program", program, f"{folder}/by_link.trace"], capture_output=True, text=True)
-        tally.check(f"links: explain, {what}", ("may have been cut" in told.stdout) == bool(status), told)
+        tally.check(f"links: explain, {what}", ("may have been cut" in told.stdout) == bool(status) and told.returncode == status, told)
     Path(folder, "by_link.trace.lines").unlink()
     got = judge(program, ["--junit", f"{other}/real.trace.lines", folder])
     tally.check("links: what stands beside the trace is not written over", got.status == 2 and Path(other, "real.trace.lines").read_text() == "4\n", got)
@@ -1562,6 +1614,7 @@ def tasks(tally: Tally, program: str, folder: str) -> None:
             os.symlink(target, f"{part}/{name}")
         done = subprocess.run(words, cwd=place, capture_output=True, text=True, env=here)
         tally.check(f"tasks: {kind}: each real folder is judged once", done.returncode == 0 and len(Path(place, lines).read_text().splitlines()) == 10, done)
+        stray(tally, kind, place, words, here)
         stranger = Path(folder, "stranger")
         stranger.mkdir(exist_ok=True)
         for what, text in (("a traceback", "import nowhere\n"), ("a tool that answers too little", "import sys\nprint('{}')\nsys.exit(1)\n"),
@@ -1593,6 +1646,19 @@ def tasks(tally: Tally, program: str, folder: str) -> None:
                 done = subprocess.run(words, cwd=place, capture_output=True, text=True, env=here | {"PATH": f"{stranger}:{here['PATH']}"})
                 tally.check(f"tasks: {kind}: {'an empty' if is_there else 'no'} folder, and a tool that ends with {status}", done.returncode == 2, done)
             os.makedirs(f"{place}/night/part0", exist_ok=True)
+
+
+def stray(tally: Tally, kind: str, place: str, words: list, here: dict) -> None:
+    """A trace that lies in no task's folder fails task 0, which says which; other tasks judge what is theirs."""
+    for name, is_stray in ("part99/last.trace", False), ("notes/seed.txt", False), ("part100/more.trace", True), ("beside.trace", True), ("part07/x.TRACE", True):
+        write(f"{place}/night", {name: "0 ins a 0 : a", "part7/x.trace": "0 ins a 0 : a"})
+        for task, fails in ("0", is_stray), ("7", False):
+            of_task = {key: task if key in ("SLURM_ARRAY_TASK_ID", "JOB_COMPLETION_INDEX") else value for key, value in here.items()}
+            done = subprocess.run(words, cwd=place, capture_output=True, text=True, env=of_task)
+            tally.check(f"tasks: {kind}: {name} beside the tasks' folders, task {task}", done.returncode == (2 if fails else 0) and
+                        (re.search(rf"^no task judges (night|\.)/{name}: is there a part behind 99\?\n$", done.stderr, re.MULTILINE) is not None) == fails, done)
+        shutil.rmtree(f"{place}/night/part7")
+        Path(place, "night", name).unlink()
 
 
 def script_of_ci(tally: Tally, program: str, folder: str) -> None:
@@ -1976,7 +2042,7 @@ def main() -> None:
         fails_at(tally, program, third)
         warnings(tally, program, folder)
         warnings_of_sessions(tally, program, other)
-    for check in (pythons, beside_elsewhere, safe_paths, little_memory, not_looked_at, changing, told_of_what_was_judged, explained_once, weak, weak_junit, weak_in_ci,
+    for check in (pythons, left_over, beside_elsewhere, safe_paths, little_memory, not_looked_at, changing, told_of_what_was_judged, explained_once, weak, weak_junit, weak_in_ci,
                   known_as_cut, refused_calls, grouped, no_entries, no_files, overwriting, millions_of_names, odd_names, one_way_to_show, odd_words, names_like_commands, tasks, script_of_ci,
                   big_traces, time_of_small, time_of_big, long_cycles):
         with tempfile.TemporaryDirectory() as folder:

@@ -10,6 +10,8 @@ import shutil
 import subprocess
 import sys
 import tempfile
+import time
+from concurrent.futures import ThreadPoolExecutor
 from pathlib import Path
 
 ROOT = Path(__file__).resolve().parents[2]
@@ -335,6 +337,120 @@ def test_last(server):
     pass
 """
 REFUSAL = "a call was refused, so what it says is not recorded: name "
+NO_PASS = "accepted, but this is no pass: "
+
+# Tests of which a call was refused, and that go on: what it says came later, or in a teardown, or never.
+REFUSED_CALLS = {
+    "python": """
+import pytest
+from domepeeler import NotCausal, Refused
+
+
+def take_early(recording):
+    recording.insert(1, "a", 0, ["a"])
+    recording.insert(1, "b", 1, ["a", "b"])
+    with pytest.raises(NotCausal):
+        recording.received_clock(0, 1, [0, 2])
+
+
+def take_all(recording):
+    recording.received_clock(0, 1, [0, 1])
+    recording.received_clock(0, 1, [0, 2])
+    recording.delivered([["a", "b"], ["a", "b"]])
+
+
+@pytest.fixture
+def network(domepeeler):
+    recording = domepeeler(2)
+    yield recording
+    take_all(recording)
+
+
+@pytest.fixture
+def broken_network(domepeeler):
+    recording = domepeeler(2)
+    yield recording
+    recording.read(0, [])
+
+
+@pytest.mark.parametrize("stop", [False, True])
+def test_refused(domepeeler, stop):
+    recording = domepeeler(1, stop=stop)
+    with pytest.raises(Refused):
+        recording.read(0, ["a b"])
+    recording.read(0, [])
+
+
+def test_came(domepeeler):
+    recording = domepeeler(2)
+    take_early(recording)
+    take_all(recording)
+
+
+def test_comes_in_a_teardown(network):
+    take_early(network)
+
+
+def test_never_came(broken_network):
+    take_early(broken_network)
+""",
+    "javascript": """
+import assert from "node:assert"
+import { test } from "node:test"
+import { NotCausal, Recording, Refused } from "domepeeler"
+import { accepted, recorded } from "domepeeler/node_test"
+
+function takeEarly(recording) {
+  recording.insert(1, "a", 0, ["a"])
+  recording.insert(1, "b", 1, ["a", "b"])
+  assert.throws(() => recording.receivedClock(0, 1, [0, 2]), NotCausal)
+}
+function takeAll(recording) {
+  recording.receivedClock(0, 1, [0, 1])
+  recording.receivedClock(0, 1, [0, 2])
+  recording.delivered([["a", "b"], ["a", "b"]])
+}
+function refuse(recording) {
+  assert.throws(() => recording.read(0, ["a b"]), Refused)
+  recording.read(0, [])
+}
+for (const stop of [false, true]) test(`refused ${stop}`, recorded(1, refuse, { stop }))
+test("came", recorded(2, (recording) => {
+  takeEarly(recording)
+  takeAll(recording)
+}))
+test("comes in a hook", recorded(2, (recording, context) => {
+  context.after(() => takeAll(recording))
+  takeEarly(recording)
+}))
+test("never came", recorded(2, (recording) => {
+  takeEarly(recording)
+  recording.read(0, [])
+}))
+for (const act of [takeEarly, refuse]) test(`accepted ${act.name}`, async () => {
+  const recording = new Recording(2)
+  act(recording)
+  await accepted(recording, "refused.trace")
+})
+test("accepted takeAll", async () => {
+  const recording = new Recording(2)
+  takeEarly(recording)
+  takeAll(recording)
+  await accepted(recording, "refused.trace")
+})
+"""}
+# Tests that answer what recorded() has made in the place of calling it, and one that hands it on.
+NEVER_CALLED = """
+import { test } from "node:test"
+import { recorded } from "domepeeler/node_test"
+
+const body = (recording) => { recording.insert(0, "a", 0, []) }
+test("arrow", () => recorded(1, body)) // never called
+test("awaits", async () => { await recorded(1, body) })
+test("within", async (context) => {
+  await context.test("inner", recorded(1, (recording) => { recording.insert(0, "a", 0, ["a"]) }))
+})
+"""
 
 # A thread that begins to record when its test has ended, and still does when pytest ends; it records what is right.
 RUNNING = """
@@ -1205,6 +1321,7 @@ def check_python(tally: Tally, place: Place) -> None:
     tally.check("pytest: warns where nothing was recorded, and nowhere else", "2 failed, 3 passed, 1 warning" in said and
                 "test_nothing" in said and all(words in said for words in warnings_of("accepted", b"trace 1\nreplicas 2\n").all), said)
     check_ends_of_pytest(tally, place, [*command[:-1], "test_ends.py"])
+    check_two_runs(tally, place, [*command[:-1], "test_runs.py"])
     check_weak_of_pytest(tally, place, [*command[:-1], "test_weak.py"])
     check_stop_of_pytest(tally, place, [*command[:-1], "test_stop.py"])
     check_beside(tally, place, "Python", [python, "-c", EXPLAINING["python"]], "python")
@@ -1220,7 +1337,7 @@ def check_ends_of_pytest(tally: Tally, place: Place, command: list) -> None:
     shutil.rmtree(kept)
     done = place.run(command, "python")
     tally.check("pytest: counts of ends", done.returncode == 1 and
-                "3 failed, 8 passed, 3 skipped, 1 xfailed, 4 warnings, 6 errors" in done.stdout, done.stdout)
+                "4 failed, 7 passed, 3 skipped, 1 xfailed, 3 warnings, 6 errors" in done.stdout, done.stdout)
     warned = done.stdout.partition("test_ends.py::test_begins_none")[2].partition("\n\n")[0]
     tally.check("pytest: warns of a test that takes the fixture and begins no recording",
                 "NothingRecorded: the fixture domepeeler began no recording, so nothing was judged" in warned, done.stdout)
@@ -1229,12 +1346,13 @@ def check_ends_of_pytest(tally: Tally, place: Place, command: list) -> None:
             "ERROR at setup of test_set_up", ["no editor", "accepted"]), ("ERROR at teardown of test_skipped_and_wrong", ["contents 0.1: "]), (
             "ERROR at teardown of TestOfUnittest.test_skips", ["contents 0.1: "]), ("TestOfUnittest.test_fails", ["nine is not ten", "contents 0.1: "]), (
             "test_removes_its_folder", ["contents 0.1: "]), ("ERROR at teardown of test_torn_down", ["no end", "accepted"]), (
+            "test_forks", [f"{NO_PASS}a forked process recorded into its copy"]), (
             "test_fails_and_is_right", ["assert 5 == 6", "accepted", "\nYour notes\n  seed 17\n"]):
         text = said.get(name, "")
         tally.check(f"pytest: {name}", all(word in text for word in words) and "The trace is saved: " in text, (sorted(said), text))
     traces = sorted(path.name for path in kept.iterdir() if path.name.endswith(".trace"))
     tally.check("pytest: traces of ends", [name for name in traces if "Unittest" not in name] == [f"test_ends.py--test_{name}.trace" for name in (
-        "begun_late", "fails_and_is_right", "late", "removes_its_folder", "set_up", "skipped_and_wrong", "torn_down")], traces)
+        "begun_late", "fails_and_is_right", "forks", "late", "removes_its_folder", "set_up", "skipped_and_wrong", "torn_down")], traces)
     tally.check("pytest: traces of tests of unittest", [name for name in traces if "Unittest" in name] == [
         f"test_ends.py--TestOfUnittest--test_{name}.trace" for name in ("fails", "skips")], traces)
     tally.check("pytest: warns of what an accepted recording may hide", all(f"Unsure: {told}\n" in done.stdout for told in UNSURE),
@@ -1284,10 +1402,15 @@ def check_later_of_pytest(tally: Tally, place: Place, name: str, command: list) 
                     "contents 0.2: " in said.partition("ERROR at teardown of test_last")[2] and told == [("test_first", recorded)], said)
     check("what a thread records that still runs fails the run", RUNNING, "2 passed", ("test_begins", recorded))
     check("a recording that is begun when its test has ended fails the run", BEGINNING, "2 passed", ("test_first", "a recording was begun"))
-    said = check("a call that is refused when its test has ended fails the run", REFUSED, "3 passed, 1 warning",
-                 ("test_first", "a call was refused"))
-    tally.check(f"{name}: warns of a call that is refused in a teardown", said.count(f"Unsure: {REFUSAL}") == 1 and
-                "test_client" in said.partition("warnings summary")[2], said)
+    has_failed, said, told = run(REFUSED)
+    tally.check(f"{name}: a call that is refused when its test has ended fails the run", has_failed and told == [("test_first", "a call was refused")], said)
+    tally.check(f"{name}: a call that is refused in a teardown fails the test", re.search("^3 passed, 1 error in ", said, re.MULTILINE) and
+                f"\n{NO_PASS}{REFUSAL}" in said.partition("ERROR at teardown of test_client")[2], said)
+    has_failed, said, _ = run(REFUSED_CALLS["python"])
+    told = {which: said.partition(f" {which} ___")[2].partition("\n___")[0] for which in ("test_refused[False]", "test_refused[True]", "ERROR at teardown of test_never_came")}
+    tally.check(f"{name}: calls that are refused, and what they say never comes", has_failed and re.search("^2 failed, 3 passed, 1 error in ", said, re.MULTILINE) and
+                all(f"\n{NO_PASS}{'a call was refused, and what it says never came: not causal: ' if 'never' in which else REFUSAL}" in text and
+                    "\nWhat this verdict may hide\n  a call was refused" in text and "\nThe trace is saved: " in text for which, text in told.items()), said)
 
 
 def check_cut_short(tally: Tally, place: Place, command: list) -> None:
@@ -1305,6 +1428,52 @@ def check_cut_short(tally: Tally, place: Place, command: list) -> None:
     tally.check("pytest: a test that is skipped while it is torn down", done.returncode == 1 and
                 "ERROR test_cut.py::test_ends - domepeeler: the test was skipped while it was torn down" in done.stdout, done.stdout)
     (place.folder / "python/test_cut.py").unlink()
+
+
+# A test that ends soon, and one that waits for the end of another run, where a variable says so; another says whether the list is lost.
+TWO_RUNS = """
+import os
+import time
+from pathlib import Path
+
+
+def test_soon(domepeeler):
+    domepeeler(1).insert(0, os.environ["NAME"], 0, [] if "LOST" in os.environ else [os.environ["NAME"]])
+
+
+def test_last():
+    for _ in range(600):
+        if "WAITS" not in os.environ or Path("ended").exists():
+            return
+        time.sleep(0.1)
+    raise TimeoutError("the other run")
+"""
+
+
+def check_two_runs(tally: Tally, place: Place, command: list) -> None:
+    """Of two runs of pytest in one folder neither overwrites or removes what the other has saved, whether both fail or one passes; a later run,
+    which is alone, removes all where the test passes."""
+    place.make("python/test_runs.py", TWO_RUNS)
+    folder = place.folder / "python/failed_traces"
+    for ways, more in (([], []), (["LOST"], []), ([], ["-n", "1"]), (["LOST"], ["-n", "1"])):
+        shutil.rmtree(folder, ignore_errors=True)
+        (place.folder / "python/ended").unlink(missing_ok=True)
+        with ThreadPoolExecutor(1) as pool:
+            first = pool.submit(place.run, [*command, *more], "python", LOST="1", NAME="first", WAITS="1")
+            while not first.done() and not list(folder.glob("*.trace")):
+                time.sleep(0.05)
+            second = place.run([*command, *more], "python", **dict.fromkeys(ways, "1"), NAME="second")
+            place.make("python/ended", "")
+        saved = {path.read_text().split()[6]: path for path in folder.glob("*.trace")}
+        name = f"two runs of pytest, {len(ways)} fails beside the first, {more}"
+        tally.check(f"{name}: each is told of, and kept", set(saved) == {"first", "second"} if ways else set(saved) == {"first"}, (saved, second.stdout))
+        tally.check(f"{name}: the names", saved.get("first", Path()).name == "test_runs.py--test_soon.trace" and f"The trace is saved: {saved['first']}\n" in first.result().stdout and
+                    (not ways or re.fullmatch(r"test_runs\.py--test_soon-run[0-9]+\.trace", saved["second"].name) is not None and
+                     f"The trace is saved: {saved['second']}\n" in second.stdout), (saved, first.result().stdout, second.stdout))
+        done = place.run(command, "python", NAME="third")
+        tally.check(f"{name}: a run alone that passes removes all", done.returncode == 0 and [path.name for path in folder.iterdir()] == [".gitignore"], list(folder.iterdir()))
+    done = place.run([*command, "-k", "soon", "-n", "2", "--dist", "each"], "python", LOST="1", NAME="each")
+    tally.check("pytest-xdist: each worker's trace has a name of its own", "2 failed" in done.stdout and len(list(folder.glob("*.trace"))) == 2, done.stdout)
 
 
 def check_weak_of_pytest(tally: Tally, place: Place, command: list) -> None:
@@ -1471,8 +1640,20 @@ def check_ends_of_node(tally: Tally, place: Place) -> None:
     place.make("packed/refused.test.mjs", REFUSED_OF_NODE)
     words_refused = [*words[:-1], "refused.test.mjs"]
     done = place.run(words_refused, "packed")
-    tally.check("node --test: warns of a call that is refused in a hook", done.returncode == 0 and "ok 1 - hook\n" in done.stdout and
-                done.stdout.count(f"# hook: {REFUSAL}") == 1, done.stdout)
+    tally.check("node --test: a call that is refused in a hook fails the test", done.returncode == 1 and "not ok 1 - hook\n" in done.stdout and
+                f"{NO_PASS}{REFUSAL}" in done.stdout, done.stdout)
+    place.make("packed/calls.test.mjs", REFUSED_CALLS["javascript"])
+    done = place.run([*words[:-1], "calls.test.mjs"], "packed")
+    results = {name: is_ok == "ok" for is_ok, name in re.findall(r"^((?:not )?ok) \d+ - (.*)$", done.stdout, re.MULTILINE)}
+    tally.check("node --test: calls that are refused, and what they say never comes", results == {
+        "refused false": False, "refused true": False, "came": True, "comes in a hook": True, "never came": False, "accepted takeEarly": False,
+        "accepted refuse": False, "accepted takeAll": True} and done.stdout.count(NO_PASS) >= 5, done.stdout)
+    place.make("packed/never.test.mjs", NEVER_CALLED)
+    done = place.run([*words[:-1], "never.test.mjs"], "packed")
+    line = line_with(NEVER_CALLED, "// never called")
+    tally.check("node --test: what recorded() makes and nobody calls fails the test", done.returncode == 1 and "not ok 1 - arrow\n" in done.stdout and
+                "not ok 2 - awaits\n" in done.stdout and "ok 3 - within\n" in done.stdout and "    ok 1 - inner\n" in done.stdout and
+                done.stdout.count("this one was never called, so nothing was recorded") >= 2 and f"never.test.mjs:{line}:" in done.stdout, done.stdout)
     done = place.run(words_refused, "packed", TIMER="1")
     tally.check("node --test: a call that is refused later still is told of", done.returncode == 1 and "ok 2 - timer" in done.stdout and
                 "timer: a call was refused when the test had ended, so what it says was not judged" in done.stdout, done.stdout)

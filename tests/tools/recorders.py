@@ -588,6 +588,14 @@ console.log(JSON.stringify([why.constructor.name, why.path === path, why.code, w
 """
 
 
+def check_save_is_described(tally: Tally) -> None:
+    """What each language says of save, where a user reads it, has that a second recording of one name takes the first one's place."""
+    for file in "domepeeler.py", "domepeeler.mjs", "javascript/domepeeler.d.mts", "domepeeler.rs", "domepeeler.h", "domepeeler.el":
+        words = " ".join(re.sub(r"^ *(///|\*|//)? *", "", line) for line in (ROOT / "recorders" / file).read_text().splitlines())
+        tally.check(f"{file}: what takes the place of what is said of save", "A second recording that is saved under the same name takes the place of the first, without a word"
+                    in words, file)
+
+
 def check_odd_paths(tally: Tally, recorder: Recorder, folder: Path) -> None:
     """An error of save shows a path so that it sends no bytes of its own to a terminal and begins no line: where its folder is not there,
     where it is a folder itself, and where what stands beside it is one."""
@@ -1226,6 +1234,7 @@ fn main() {{
         if recording.lines() == 5 {{ eprintln!("here") }}
         println!("{{}}", recording.read(0, &[] as &[&str]).unwrap());
     }}
+    assert_eq!(recording.text().lines().count(), 8);
 }}
 ''', "here", ["rustc", "--edition", "2021", "-o", "stopping_rs", "stopping.rs"], ["./stopping_rs"]),
     "stopping.c": (f'''#include "{ROOT / 'recorders'}/domepeeler.h"
@@ -1542,6 +1551,10 @@ def check_python(tally: Tally) -> None:
             pass
     told = recording.warnings()[0]
     tally.check("py: calls that fail otherwise are told of as refused ones", told == f"4 {CALLS_REFUSED}KeyError: 'no name'", told)
+    try:
+        tally.check("py: a report is neither true nor false", not Recording(1).judge([sys.executable, "-c", 'print(\'{"verdict":"accepted","operations":0}\')']))
+    except TypeError as why:
+        tally.check("py: a report is neither true nor false", "by its `verdict` and `warnings`" in str(why), why)
     check_forks(tally)
     check_threads(tally)
 
@@ -1865,6 +1878,28 @@ MERGED_BESIDE = [
     ("what is no text", [b"7\n3 \xc3\xa9\xff.py:1\n", b"1" * 5000 + b"\n4 c.py:4\n", b"\n"], "11\nmerged\n3 \u00e9\udcff.py:1\n",
      NO_NUMBER.format("1.log") + NO_NUMBER.format("2.log")),
 ]
+
+
+# How many seconds before the last one each of three logs was written, and of which it is warned, with how long before which.
+WRITTEN = [((0, 0, 0), []), ((3600, 0, 1800), []), ((3700, 0, 0), [(0, "an hour", 1)]), ((0, 7300, 0), [(1, "2 hours", 0)]),
+           ((90000, 90060, 0), [(1, "25 hours", 2), (0, "25 hours", 2)]), ((20000, 10000, 0), [(0, "5 hours", 2), (1, "2 hours", 2)]), ((3000, 6000, 0), [])]
+
+
+def check_merge_stale(tally: Tally, folder: Path) -> None:
+    """A log that was last written more than an hour before the others is warned of; the logs are merged all the same."""
+    place = folder / "stale"
+    place.mkdir()
+    logs = [place / f"log{number}" for number in range(3)]
+    for number, log in enumerate(logs):
+        log.write_text(f"trace 1\nreplicas 3\n{number} read :\n")
+    for ages, wanted in WRITTEN:
+        for age, log in zip(ages, logs):
+            os.utime(log, (1_000_000_000 - age,) * 2)
+        for more in [], ["--output", place / "merged.trace"]:
+            done = subprocess.run([sys.executable, ROOT / "recorders" / "merge.py", *more, *logs], capture_output=True, text=True)
+            told = [f"merge.py: warning: {logs[log]} was last written more than {long} before {logs[other]} was, so it may be of an earlier run"
+                    for log, long, other in wanted]
+            tally.check(f"merge: logs that were written {ages} seconds before, {more[:1]}", done.returncode == 0 and done.stderr.splitlines() == told, done)
 
 
 def check_merge_refused(tally: Tally, folder: Path) -> None:
@@ -2528,8 +2563,10 @@ fn it_stops() {{
 
 #[test]
 fn there_is_no_program() {{
-    assert!(session().verdict_by("/nowhere/domepeeler").unwrap_err().starts_with("/nowhere/domepeeler cannot be run ("));
-    assert_eq!(session().verdict_by("true").unwrap_err(), "true ended with status 0 and printed no report");
+    let session = session();
+    assert!(session.verdict_by("/nowhere/domepeeler").unwrap_err().starts_with("/nowhere/domepeeler cannot be run ("));
+    assert_eq!(session.verdict_by("true").unwrap_err(), "true ended with status 0 and printed no report");
+    assert!(session.verdict().is_ok());
 }}
 
 #[test]
@@ -2690,6 +2727,11 @@ fn fails() {{
     assert!(std::env::var_os("FAILS").is_none(), "by itself");
 }}
 
+/// Hands it on, so that nothing is wrong with dropping it.
+fn taken(recording: &Recording) {{
+    assert!(recording.text().starts_with("trace 1\n"));
+}}
+
 #[test]
 fn by_itself() {{
     let mut recording = reading(&[]);
@@ -2701,10 +2743,13 @@ fn by_itself() {{
 #[test]
 fn with_three() {{
     let first = reading(&["first"]);
-    let copy = reading(&["second"]).clone();
+    let second = reading(&["second"]);
+    let copy = second.clone();
+    taken(&second);
+    drop(second);
     let third = reading(&["third"]);
     fails();
-    drop((first, copy, third));
+    [&first, &copy, &third].into_iter().for_each(taken);
 }}
 
 #[test]
@@ -2712,7 +2757,7 @@ fn in_the_second() {{
     let first = reading(&["first"]);
     let second = reading(if std::env::var_os("FAILS").is_some() {{ &["lost"] }} else {{ &[] }});
     second.assert_accepted();
-    first.verdict().unwrap();
+    assert!(first.verdict().is_ok());
 }}
 
 #[test]
@@ -2721,6 +2766,7 @@ fn after_it_was_saved() {{
     recording.save("by_hand.trace").unwrap();
     recording.read(0, &["later"]).unwrap();
     fails();
+    taken(&recording);
 }}
 
 #[test]
@@ -2728,6 +2774,7 @@ fn in_a_log() {{
     let mut log = Recording::only(3, 1).unwrap();
     log.received(1, 0, 7).unwrap();
     fails();
+    taken(&log);
 }}
 
 #[test]
@@ -2741,7 +2788,7 @@ fn saved() {{
 fn judged() {{
     let recordings = [reading(&["judged"]), reading(&["judged"]), reading(&["judged"])];
     recordings[0].judge().unwrap();
-    recordings[1].verdict().unwrap();
+    assert!(recordings[1].verdict().is_ok());
     recordings[2].explain().unwrap();
     fails();
 }}
@@ -2754,6 +2801,7 @@ fn lists_differ() {{
     recording.read(1, &["a"]).unwrap();
     recording.insert(0, "b", 1, &["a", "b"]).unwrap(); // never arrives
     fails();
+    taken(&recording);
 }}
 
 #[test]
@@ -2764,17 +2812,18 @@ fn of_nothing() {{
 
 #[test]
 fn caught() {{
-    drop(reading(&[]));
+    taken(&reading(&[]));
     assert!(std::panic::catch_unwind(|| panic!("before")).is_err());
-    drop(reading(&[]));
+    taken(&reading(&[]));
 }}
 
 #[test]
 fn of_three_cases() {{
     for case in ["one", "two", "three"] {{
         let tried = std::panic::catch_unwind(|| {{
-            let _recording = reading(&[case]);
+            let recording = reading(&[case]);
             fails();
+            taken(&recording);
         }});
         assert_eq!(tried.is_ok(), std::env::var_os("FAILS").is_none());
     }}
@@ -2835,6 +2884,187 @@ def check_own_panics(tally: Tally, program: str, folder: Path) -> None:
         done = subprocess.run(["./own", "--nocapture", "by_itself"], cwd=place, env={**surroundings, "FAILS": "1"}, stdout=subprocess.PIPE,
                               stderr=full, text=True)
     tally.check("Rust: where standard error takes nothing", done.returncode == 101 and "0 passed; 1 failed;" in done.stdout, done)
+
+
+# Tests in Rust: those that end with a recording that nothing has judged, and right ones.
+DROPPED = f"""#[path = "{ROOT / 'recorders'}/domepeeler.rs"]
+mod domepeeler;
+use domepeeler::{{Recording, Refused}};
+
+fn reading(names: &[&str]) -> Recording {{
+    let mut recording = Recording::new(1).unwrap();
+    recording.read(0, names).unwrap(); // reads
+    recording
+}}
+
+#[test]
+fn bad_forgotten() {{
+    reading(&[]);
+}}
+
+#[test]
+fn bad_later() {{
+    let mut recording = reading(&[]);
+    recording.judge().unwrap();
+    recording.read(0, &["lost"]).unwrap();
+}}
+
+#[test]
+fn bad_copy() {{
+    let recording = reading(&[]);
+    let mut copy = recording.clone();
+    copy.read(0, &["lost"]).unwrap();
+    recording.assert_accepted();
+}}
+
+#[test]
+fn bad_refused() {{
+    let mut recording = reading(&[]);
+    recording.assert_accepted();
+    let _ = recording.read(7, &["lost"]);
+}}
+
+#[test]
+fn bad_all_refused() {{
+    let _ = Recording::new(1).unwrap().read(7, &["lost"]);
+}}
+
+#[test]
+fn bad_refused_and_stops() {{
+    let mut recording = Recording::new(1).unwrap().stop().unwrap();
+    let _ = recording.read(7, &["lost"]);
+    recording.read(0, &[] as &[&str]).unwrap();
+}}
+
+#[test]
+fn bad_without_program() {{
+    if let Ok(report) = reading(&["lost"]).judge_by("/nowhere/domepeeler") {{
+        assert!(report.contains("accepted"));
+    }}
+}}
+
+#[test]
+fn bad_question_mark() -> Result<(), Refused> {{
+    let mut recording = reading(&[]);
+    recording.received(0, 9, 1)?;
+    recording.assert_accepted();
+    Ok(())
+}}
+
+#[test]
+fn bad_two() {{
+    let _both = [reading(&["one"]), reading(&["two"])];
+}}
+
+#[test]
+fn right_ways() {{
+    reading(&[]).assert_accepted();
+    reading(&[]).assert_weak();
+    reading(&["lost"]).judge().unwrap();
+    assert!(reading(&["lost"]).verdict().is_ok());
+    reading(&["lost"]).explain().unwrap();
+    reading(&["lost"]).save("right.trace").unwrap();
+    assert!(reading(&["lost"]).text().ends_with(": lost\n"));
+    drop(Recording::new(3));
+    let recording = reading(&[]);
+    drop(recording.clone());
+    recording.assert_accepted();
+    let mut log = Recording::only(3, 1).unwrap();
+    log.received(1, 0, 7).unwrap();
+    log.save("right.log").unwrap();
+    let mut stopping = Recording::new(1).unwrap().stop().unwrap();
+    stopping.read(0, &[] as &[&str]).unwrap();
+}}
+
+#[test]
+fn right_waiting() {{
+    let mut recording = Recording::new(2).unwrap();
+    recording.insert(1, "a", 0, &["a"]).unwrap();
+    recording.insert(1, "b", 1, &["a", "b"]).unwrap();
+    assert!(matches!(recording.received_clock(0, 1, &[0, 2], 1), Err(Refused::NotCausal {{ .. }})));
+    recording.received_clock(0, 1, &[0, 1], 1).unwrap();
+    recording.received_clock(0, 1, &[0, 2], 1).unwrap();
+    recording.delivered(&[["a", "b"], ["a", "b"]]).unwrap();
+    recording.assert_accepted();
+}}
+"""
+UNJUDGED = "nothing has judged this recording, saved it or taken its text, so nobody knows whether it is right"
+SINCE = "something was recorded, or refused, since the recording was judged, saved or taken as text, and nothing has judged that"
+DROPPED_TOLD = {  # by test: what it fails with, up to the line behind which it should have ended, and what the last call failed with
+    "forgotten": (UNJUDGED, ""), "later": (SINCE, ""), "copy": (UNJUDGED, ""), "two": (UNJUDGED, ""), "refused": (SINCE, "no replica 7 among 0 to 0"),
+    "all_refused": (UNJUDGED, "no replica 7 among 0 to 0"), "question_mark": (UNJUDGED, "no replica 9 among 0 to 0"),
+    "refused_and_stops": ("a call was refused, so what it says is not recorded: no replica 7 among 0 to 0", ""),
+    "without_program": (UNJUDGED, "/nowhere/domepeeler cannot be run (")}
+
+
+def check_dropped(tally: Tally, program: str, folder: Path) -> None:
+    """A test in Rust fails that drops a recording which nobody has judged, saved or taken as text since something was recorded or refused; it
+    says behind which line to end, and what the last call failed with. No right way to end trips it."""
+    place = folder / "dropped"
+    place.mkdir()
+    (place / "drops.rs").write_text(DROPPED)
+    subprocess.run(["rustc", "--edition", "2021", "-D", "warnings", "--test", "-o", "drops", "drops.rs"], cwd=place, check=True)
+    done = subprocess.run(["./drops"], cwd=place, capture_output=True, text=True, env={
+        **os.environ, "DOMEPEELER": program, "DOMEPEELER_EXPLAIN": EXPLAIN, "RUST_BACKTRACE": "0"})
+    tally.check("Rust, dropped: all that are wrong fail, and no other", f"2 passed; {len(DROPPED_TOLD)} failed;" in done.stdout and
+                "test right_ways ... ok\n" in done.stdout and "test right_waiting ... ok\n" in done.stdout, done)
+    (place / "unused.rs").write_text(DROPPED.partition("#[test]")[0] + 'fn main() {\n    reading(&["lost"]).verdict().unwrap();\n}\n')
+    unused = subprocess.run(["rustc", "--edition", "2021", "-A", "unused_imports", "-o", "unused", "unused.rs"], cwd=place, capture_output=True, text=True)
+    tally.check("Rust, dropped: the compiler warns of a verdict that nobody looks at", unused.returncode == 0 and
+                "it says whether the recording is right" in unused.stderr, unused)
+    for name, (words, failed) in DROPPED_TOLD.items():
+        told = done.stdout.partition(f"---- bad_{name} stdout ----\n")[2].partition("\n----")[0]
+        tally.check(f"Rust, dropped: {name}", f":\n{words}: end with recording.assert_accepted()" in told and
+                    ("all" in name or " behind drops.rs:" in told) and (f". The last call failed: {failed}" in told if failed else "failed:" not in told), told)
+
+
+# A program in C that frees a recording of which something was recorded, in a way that a word names.
+FREED = f"""#include "{ROOT / 'recorders'}/domepeeler.h"
+static void ignore(const char *words, void *data) {{ (void)words, (void)data; }}
+int main(int count, char **words) {{
+    const char *way = words[1], *lost[] = {{"lost"}};
+    struct domepeeler *d = domepeeler_new(1);
+    unsigned said = count == 2;
+    if (!strncmp(way, "stop", 4)) said = domepeeler_stop(d, 0, ignore, NULL);
+    if (!strcmp(way, "stop, refused")) said = !domepeeler_read(d, 7, lost, 1);
+    if (strcmp(way, "nothing")) said = said && domepeeler_read(d, 0, lost, strcmp(way, "stop, refused") ? 1 : 0); /* reads */
+    char *report = !strncmp(way, "judge", 5) ? domepeeler_judge(d, strstr(way, "nowhere") ? "/nowhere/domepeeler" : NULL) : NULL;
+    if (!strcmp(way, "explain")) report = domepeeler_explain(d, NULL);
+    if (!strcmp(way, "weak")) said = !domepeeler_passes_weak(d, NULL);
+    if (!strncmp(way, "save", 4)) said = domepeeler_save(d, strcmp(way, "save") ? "/nowhere/x.trace" : "freed.trace");
+    if (!strncmp(way, "text", 4)) said = domepeeler_text(d) != NULL;
+    if (strstr(way, "later")) said = domepeeler_read(d, 0, lost, 1);
+    if (!strcmp(way, "text, refused")) said = !domepeeler_read(d, 7, lost, 1);
+    if (!strcmp(way, "forked") && !fork()) {{
+        domepeeler_free(d);
+        _exit(0);
+    }}
+    if (!strcmp(way, "forked")) wait(NULL), said = domepeeler_text(d) != NULL;
+    free(report);
+    domepeeler_free(d);
+    return !said;
+}}
+"""
+TOLD_WHEN_FREED = {"recorded": "recorded or refused", "text, later": "recorded or refused", "text, refused": "recorded or refused", "judge by nowhere":
+                   "recorded or refused", "save nowhere": "recorded or refused", "stop, refused": "refused"}
+SILENT_WHEN_FREED = ["nothing", "judge", "explain", "weak", "save", "text", "stop", "forked"]
+
+
+def check_freed(tally: Tally, program: str, folder: Path) -> None:
+    """A program in C that frees a recording which nobody has judged, explained, saved or taken as text since something was recorded or refused says
+    so on standard error, with the last line of code. No right way does."""
+    place = folder / "freed"
+    place.mkdir()
+    (place / "freed.c").write_text(FREED)
+    subprocess.run(["gcc", "-Wall", "-Wextra", "-Werror", "-o", "freed", "freed.c"], cwd=place, check=True)
+    line = next(number for number, text in enumerate(FREED.splitlines(), 1) if "/* reads */" in text)
+    for way in [*TOLD_WHEN_FREED, *SILENT_WHEN_FREED]:
+        done = subprocess.run(["./freed", way], cwd=place, capture_output=True, text=True,
+                              env={**os.environ, "DOMEPEELER": program, "DOMEPEELER_EXPLAIN": EXPLAIN})
+        told = (f"domepeeler: a recording is freed, and nothing has judged it, saved it or taken its text since something was {TOLD_WHEN_FREED.get(way)}; "
+                f"its last line was recorded by freed.c:")
+        tally.check(f"C, freed: {way}", done.returncode in (0, 1) and (done.stderr.startswith(told) and done.stderr.count("\n") == 1 and (
+            f"freed.c:{line}" in done.stderr or "later" in way) if way in TOLD_WHEN_FREED else done.stderr == ""), done)
 
 
 # Compilers and the standards that they follow; and headers that a user may include before the recorder.
@@ -3257,6 +3487,7 @@ int main(int argc, char **argv) {{
     domepeeler_on_abort(recording, "aborted.trace");
     if (argc != 3 || !domepeeler_insert(recording, 0, "a", 0, list, 1) || !domepeeler_read(recording, 0, list, argv[1][0] == 's')) return 2;
     assert(argv[2][0] == 'h' || argv[2][0] == 'f');
+    if (!domepeeler_text(recording)) return 2; /* so that nothing is said when it is freed */
     domepeeler_free(recording);
     if (argv[2][0] == 'f') abort();
     return 0;
@@ -3493,6 +3724,7 @@ def main() -> None:
                 check_explain(tally, recorder, folder)
             check_weak(tally, recorder)
             check_stop(tally, recorder, folder)
+        check_save_is_described(tally)
         check_jupiter(tally, program, folder)
         check_python(tally)
         check_users(tally, program, folder)
@@ -3504,6 +3736,7 @@ def main() -> None:
         check_merge(tally, program, folder)
         check_merge_hostile(tally, folder)
         check_merge_refused(tally, folder)
+        check_merge_stale(tally, folder)
         check_guide(tally, program, folder)
         check_readme(tally, program, folder)
         check_hypothesis(tally, program, folder)
@@ -3513,6 +3746,8 @@ def main() -> None:
         check_weak_heads(tally, program, folder)
         check_rust_tests(tally, program, folder)
         check_own_panics(tally, program, folder)
+        check_dropped(tally, program, folder)
+        check_freed(tally, program, folder)
         check_compilers(tally, folder)
         check_spawns(tally, folder)
         check_forked_c(tally, folder)

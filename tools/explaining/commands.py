@@ -45,6 +45,8 @@ class Once(Action):
             parser.error(f"argument {option}: it is given twice")
         if self.metavar == "FILE" and value == "":
             parser.error(f"argument {option}: a file's name is not empty")
+        if self.metavar == "PATH" and value == "":
+            parser.error(f"argument {option}: a program's name is not empty")  # else another one would be asked
         setattr(asked, self.dest, value)
 
 

@@ -18,17 +18,18 @@ from .files import MOST_BYTES, NO_SIDE, SIDE, Side, Unread, name_beside, read_bo
 from .kinds import ABOUT_KIND, HINT, KINDS, NoKind, hangs_on_kind, kind_asked
 from .page import page_of
 from .places import Beside, beside, placed_warnings, with_places
-from .programs import WAYS, Judged, NoProgram, find_program, is_weak_alone, judge, passes, report_of, report_text
+from .programs import WAYS, WEAK_ALONE, Judged, NoProgram, find_program, is_weak_alone, judge, passes, report_of, report_text
 from .recordings import FIRST_ENTRY, Recording
 from .small import smallest
-from .warnings import warnings_of
+from .warnings import NOTHING, Warnings, warnings_of
 from .words import text_of, verdict_of, with_warnings
 
 NAME = "domepeeler-explain"
 ABOUT = "Says in words what the program's verdict on a trace means: who did what in which line, and where to look."
 MOST_TOLD = 40  # operations of a small trace that are told one by one
 STATUSES = ("It ends with the program's status: 0 accepted, 1 any other verdict, 2 a trace that can't be read, 3 out of memory. "
-            "With --weak it ends with 0 too where strong fails and weak holds.")
+            "With --weak it ends with 0 too where strong fails and weak holds. It ends with 2 in the place of 0 where a trace has no entry, or TRACE"
+            f"{SIDE} says that it is not what was saved, or lacks what a refused call says: not all was judged.")
 
 
 def words_asked() -> argparse.Namespace:
@@ -137,7 +138,8 @@ def same_as(evidence: Evidence, told: Evidence) -> str:
     return f"has the verdict `{told.report['verdict']}` as the first {told.last_line} lines have,"
 
 
-def explain(asked: argparse.Namespace, program: str, trace: bytes, side: Side, judged: Judged) -> None:
+def explain(asked: argparse.Namespace, program: str, trace: bytes, side: Side, judged: Judged) -> int:
+    """Says all of it, and answers the status."""
     known = beside(trace, side)
     apart = told_apart(trace.decode(), judged.report)
     evidence = Evidence(Recording(apart.text, tuple(asked.delivered) or known.delivered), apart.report, kind=asked.editor)
@@ -145,8 +147,12 @@ def explain(asked: argparse.Namespace, program: str, trace: bytes, side: Side, j
     words = words._replace(headline=words.headline + words_on(apart.letters))
     is_alone = asked.weak and is_weak_alone(judged.report)
     refused = tuple(map(shown, asked.refused)) or known.refused
-    warnings = placed_warnings(warnings_of(judged.report["verdict"], trace, side, is_alone, refused).all, known)
-    words = with_places(with_warnings(words, warnings, refused), known)
+    hidden = warnings_of(judged.report["verdict"], trace, side, is_alone, refused)
+    words = with_places(with_warnings(words, placed_warnings(hidden.all, known), refused), known)
+    is_passing = passes(judged.report, asked.weak)
+    why = unjudged(asked, hidden, known) if is_passing else ""
+    if why:
+        words = words._replace(headline=f"{WEAK_ALONE if is_alone else 'accepted'}, but this is no pass: {why}")
     print(text_of(words), end="")
     if not asked.editor and hangs_on_kind(words.causes):
         print(f"\n{HINT}")
@@ -158,6 +164,17 @@ def explain(asked: argparse.Namespace, program: str, trace: bytes, side: Side, j
         print(f"\n{shown(asked.svg)} is not written: only a refused recording has a cycle to draw")
     if asked.small:
         write_small(asked.small, evidence, told, program, known, apart)
+    return 2 if why else 0 if is_passing else judged.status
+
+
+def unjudged(asked: argparse.Namespace, hidden: Warnings, known: Beside) -> str:
+    """What was not judged of a trace that passes, so that judge_many would end with 2 of it, if anything. Of calls that a recorder itself
+    tells of, and of nothing that it has recorded, it warns by itself."""
+    if hidden.is_another:
+        return hidden.cut[0]
+    is_asked_by_recorder = asked.trace == "-" and asked.language is not None
+    nothing = [told for told in hidden.others if told.startswith(NOTHING)]
+    return next(iter([*known.refused, *([] if is_asked_by_recorder else nothing)]), "")
 
 
 def main() -> None:
@@ -178,11 +195,11 @@ def main() -> None:
         say_fault(judged, trace, asked.trace)
     else:
         try:
-            explain(asked, program, trace, side, judged)
+            sys.exit(explain(asked, program, trace, side, judged))
         except Unexplained as error:
             is_passing = passes(judged.report, asked.weak)
             told = "Is it domepeeler? Its" if is_passing else "The program's verdict stands; its"
             print(f"{NAME}: can't explain this verdict: {shown(str(error))}. {told} report:\n{shown_lines(report_text(program, trace))}", end="",
                   file=sys.stderr)
             sys.exit(2 if is_passing else judged.status)  # what may be wrong is no pass
-    sys.exit(0 if judged.report and passes(judged.report, asked.weak) else judged.status or 2)  # without a report nothing passes
+    sys.exit(judged.status or 2)  # without a report nothing passes

@@ -3,11 +3,8 @@ lines."""
 from __future__ import annotations
 
 import argparse
-import errno
 import json
 import os
-import re
-import stat
 import sys
 from collections import Counter
 from pathlib import Path
@@ -17,13 +14,14 @@ from .commands import Once, Parser, add_version
 from .elsewhere import NoParallel, judged_there, needs_parallel
 from .faulty_lines import ENTRIES
 from .files import SIDE, name_beside, shown, write_file, written_over
+from .found import TRACE, Found, found_in
 from .judges import TooMany, judged_here
 from .junit import junit_of
 from .kinds import ABOUT_KIND, NoKind, kind_asked
 from .kinds import KINDS as KINDS_OF_EDITORS
 from .programs import WAYS, WEAK_ALONE, NoProgram, check_is_domepeeler, find_program
 from .recordings import FIRST_ENTRY
-from .rows import KINDS, NO_VERDICTS, Request, Row
+from .rows import KINDS, NO_VERDICTS, Request, Row, failed
 from .warnings import SAVED, is_first
 
 NAME = "domepeeler-judge-many"
@@ -33,10 +31,7 @@ STATUSES = ("It ends with status 0 where all are accepted, 1 where all can be re
             "an entry, or something else fails. With --weak, traces where weak "
             "holds pass too.")
 MOST_WARNED = 20  # warnings that are printed on standard error
-TRACE = ".trace"  # in any case
 HOLDS = {True: "yes", False: "no", None: "-"}  # None where the report says nothing of it, or there is none
-COMPRESSED = re.compile(r"(.*\.trace)\.(gz|bz2|xz|zst|zstd|lz4|lz|lzma|lzo|br|7z|rar|zip|z|tgz|tbz2?|txz|tar|tar\.[a-z0-9]+)", re.IGNORECASE | re.DOTALL)
-NOTHING_THERE = [errno.ENOENT, errno.ENOTDIR, errno.ELOOP]  # behind a link
 
 
 def words_asked() -> argparse.Namespace:
@@ -65,14 +60,19 @@ def fail(words: str) -> NoReturn:
     sys.exit(2)
 
 
-def traces_below(folders: list) -> list:
-    """The traces, each once. A folder without one may be another than was meant."""
-    files, empty = [], []
+def below(folders: list) -> Found:
+    """The traces, each once, and what else may be one. A folder without one may be another than was meant."""
+    found, empty = Found([], [], []), []
     for folder in folders:
         if os.path.isdir(folder):
-            below = sorted(traces_in(folder, set()), key=Path)
-            files += below
-            empty += [] if below else [folder]
+            try:
+                inside = found_in(folder, set())
+            except OSError as error:
+                unread(error)
+            inside.traces.sort(key=Path)
+            for one, more in zip(found, inside):
+                one.extend(more)
+            empty += [] if inside.traces or inside.lacking else [folder]
         else:
             try:
                 os.stat(folder)
@@ -80,57 +80,19 @@ def traces_below(folders: list) -> list:
                 fail(f"cannot read {shown(folder)}: there is no such file or folder")
             except OSError as error:
                 unread(error)
-            files.append(str(Path(folder)))
+            found.traces.append(str(Path(folder)))
     if empty:
         fail(f"there is no *{TRACE} file below {' '.join(map(shown, empty))}")
-    found = {}  # one that is found by way of two folders, or of two names of one, is judged once
-    for file in files:
-        found.setdefault((os.path.realpath(os.path.dirname(file)), os.path.basename(file)), file)
-    return list(found.values())
+    return Found(once(found.traces), once(found.lacking), once(found.alike))
 
 
-def traces_in(folder: str, been: set) -> list:
-    """The traces at any depth; behind links too, but in no folder twice."""
-    try:
-        about = os.stat(folder)
-        if (about.st_dev, about.st_ino) in been:
-            return []
-        been.add((about.st_dev, about.st_ino))
-        with os.scandir(folder) as entries:
-            names = sorted(entry.name for entry in entries)
-    except OSError as error:
-        unread(error)
-    found = []
-    for name in names:
-        path = str(Path(folder, name))
-        if is_folder(path):
-            found += traces_in(path, been)
-        elif name.lower().endswith(TRACE) or is_compressed_alone(name, names):
-            found.append(path)
-        elif is_of_missing(name, names):
-            found.append(path[:-len(SIDE)])
-    return found
-
-
-def is_compressed_alone(name: str, names: list) -> bool:
-    """Whether a trace is there that is compressed, and does not lie beside it unpacked: it is told of as one that does not read."""
-    packed = COMPRESSED.fullmatch(name)
-    return packed is not None and packed[1] not in names
-
-
-def is_of_missing(name: str, names: list) -> bool:
-    """Whether it stands beside a trace that is not there, packed or not: a recorder was stopped before it had put that there."""
-    trace = name[:-len(SIDE)]
-    return name.lower().endswith(TRACE + SIDE) and trace not in names and not any(other.startswith(trace) and COMPRESSED.fullmatch(other) for other in names)
-
-
-def is_folder(path: str) -> bool:
-    try:
-        return stat.S_ISDIR(os.stat(path).st_mode)
-    except OSError as error:
-        if error.errno not in NOTHING_THERE and not path.lower().endswith(TRACE):
-            unread(error)  # it may be a folder of traces
-        return False
+def once(found: list) -> list:
+    """Each of the paths once, or of the paths with words: one that is found by way of two folders, or of two names of one, counts once."""
+    seen = {}
+    for one in found:
+        path = one if isinstance(one, str) else one[0]
+        seen.setdefault((os.path.realpath(os.path.dirname(path)), os.path.basename(path)), one)
+    return list(seen.values())
 
 
 def unread(error: OSError) -> NoReturn:
@@ -262,11 +224,12 @@ def main() -> None:
         jobs = jobs_of(asked)
     except (NoProgram, NoParallel) as error:
         fail(str(error))
-    files = traces_below(asked.folders)
+    found = below(asked.folders)
+    files = found.traces
     why = written_over([asked.junit], [program, *(name for file in files for name in (file, file + SIDE, name_beside(file)))]) if asked.junit else ""
     if why:
         fail(why)
-    rows = in_order(judged(asked, program, files, jobs))
+    rows = in_order((judged(asked, program, files, jobs) if files else []) + [failed(path, 0.0, 2, words) for path, words in found.lacking])
     unwritten = write_junit(asked.junit, rows, asked) if asked.junit else ""
     listed = [row for row in rows if is_failing(row, asked) or not asked.failing]
     for row in listed if asked.json else []:
@@ -276,6 +239,8 @@ def main() -> None:
         print_table(rows, listed, asked.weak)
         print_unequal(rows, asked)
     print_warnings(rows)
+    for path, words in found.alike:
+        print(f"{NAME}: {shown(path)}: warning: {words}", file=sys.stderr)
     if unwritten:
         fail(unwritten)
     if all(row.report is not None and row.lines < FIRST_ENTRY for row in rows):

@@ -12,13 +12,18 @@ Begin `domepeeler(2, stop=True)`, and the test fails in the call that answered w
 Where a recording is not accepted the test fails, and its report has the explanation and the path of the saved trace. What other
 fixtures record while they are torn down is judged too, when that is done; pytest tells it as an error of the test. The report of a
 test that fails by itself has the verdict on its recordings, accepted or not, in a section of its own, and they are saved. Where a test
-passes, the traces that it saved before are removed; and of what its accepted recordings may hide pytest warns, by `Unsure`. What a test
+passes, the traces that it saved before are removed; and of what its accepted recordings may hide pytest warns, by `Unsure`. That a call was
+refused is no warning: the test fails; and at the end of its teardown, if an update was not causal and has not come by then. What a test
 records before it is skipped is judged too; not that of a test which is expected to fail, and does. What is recorded, refused or begun later
 still, as by a thread or a wider fixture, nothing has judged: it fails the run, if it comes before pytest has ended, or the worker of
-pytest-xdist that ran the test. So do recordings of a test that ends pytest, by `pytest.exit`; `os._exit` hides them, as it hides all else."""
+pytest-xdist that ran the test. So do recordings of a test that ends pytest, by `pytest.exit`; `os._exit` hides them, as it hides all else.
+
+Where another run of pytest is at work in the folder, the traces of this one have `-run` and a number in their names, so that neither takes what
+the other has saved. A run that is alone removes them too, where their test passes."""
 from __future__ import annotations
 
 import contextlib
+import glob
 import hashlib
 import os
 import re
@@ -42,6 +47,9 @@ BEGUN_LATE = "domepeeler: a recording was begun after the test had ended, so it 
 CUT_SHORT = "domepeeler: pytest ended within the test, so what it recorded was not judged"
 TORN_DOWN = "domepeeler: the test was skipped while it was torn down, so what it recorded was not judged"
 NONE_BEGUN = "the fixture domepeeler began no recording, so nothing was judged"
+NEVER_CAME = "a call was refused, and what it says never came: "  # so the recorder says of what may come still
+RUN, LOCKS = "_domepeeler_run", "_domepeeler_locks"  # what names have where another run is at work; and what says that this one is
+OF_RUN = re.compile(r"-run([0-9]+)(-[a-z]+[0-9]+)?\.trace")
 State = Tuple[int, List[str]]  # of a recording: how many lines it has, and what is told of calls that were refused
 FIRST_LINES = 2  # of each trace: its version, and how many replicas there are
 
@@ -87,6 +95,44 @@ def pytest_addoption(parser: pytest.Parser) -> None:
                                             help=f"where the traces of tests that fail are saved; {FOLDER} by default")
 
 
+def pytest_configure(config: pytest.Config) -> None:
+    of_worker = getattr(config, "workerinput", None)
+    setattr(config, RUN, of_worker.get(RUN, "") if of_worker else "" if is_alone(config) else f"-run{os.getpid()}")
+
+
+def is_alone(config: pytest.Config) -> bool:
+    """Whether no other run of pytest is at work in this folder, or in that of the traces. From now on this one is. A system without such locks
+    does not say."""
+    try:
+        import fcntl
+    except ImportError:
+        return True
+    here, is_only, locks = config.invocation_params.dir, True, []
+    for folder in here, here / config.getoption("--failed-traces"):
+        try:
+            locks.append(os.open(folder, os.O_RDONLY))
+            fcntl.flock(locks[-1], fcntl.LOCK_EX | fcntl.LOCK_NB)
+        except BlockingIOError:
+            is_only = False
+        except OSError:  # most often it is not there yet
+            pass
+    setattr(config, LOCKS, locks)
+    return is_only
+
+
+def pytest_unconfigure(config: pytest.Config) -> None:
+    for lock in getattr(config, LOCKS, []):
+        os.close(lock)
+    setattr(config, LOCKS, [])
+
+
+@pytest.hookimpl(optionalhook=True)  # of pytest-xdist, where it is installed
+def pytest_configure_node(node: Any) -> None:
+    is_run_by_each = node.config.getoption("dist", "no") == "each"
+    run = getattr(node.config, RUN, "")
+    node.workerinput[RUN] = f"{run or f'-run{os.getpid()}'}-{node.gateway.id}" if is_run_by_each else run
+
+
 @pytest.fixture
 def domepeeler(request: pytest.FixtureRequest) -> Callable[..., Recording]:
     """Begins a recording of so many replicas, which is judged when the test ends; with `weak`, where it passes if weak holds; and with
@@ -113,7 +159,7 @@ def pytest_runtest_call(item: pytest.Item) -> None:
     begun: Begun = getattr(item, BEGUN, Begun())
     if getattr(item, "_excinfo", None):  # a test of unittest that has failed, or was skipped: pytest tells of it behind this
         return
-    fail_by_faults(item, begun)
+    fail_by_faults(item, begun, False)
     begun.has_passed = True
 
 
@@ -122,7 +168,7 @@ def pytest_runtest_teardown(item: pytest.Item) -> None:
     begun: Begun = getattr(item, BEGUN, Begun())
     if not begun.has_passed and not begun.was_skipped:
         return
-    fail_by_faults(item, begun)
+    fail_by_faults(item, begun, True)
     if begun.has_passed:
         tell_of_passed(item, begun)
     begun.has_ended = True
@@ -206,9 +252,11 @@ def pytest_runtest_makereport(item: pytest.Item, call: pytest.CallInfo[None]) ->
         open_ones(item.config).pop(item.nodeid, None)
 
 
-def fail_by_faults(item: pytest.Item, begun: Begun) -> None:
-    """Fails the test where a recording is not accepted to which something was added, or of which a call was refused, since it was judged."""
-    told = [told_of(item, one, number, False) for number, one in begun.numbered() if one.state != state_of(one.recording)]
+def fail_by_faults(item: pytest.Item, begun: Begun, is_over: bool) -> None:
+    """Fails the test where a recording is not accepted, or lacks what a refused call says, to which something was added, or of which a call was
+    refused, since it was judged. Until all is over, an update that waits for another may come."""
+    told = [told_of(item, one, number, False, is_over=is_over) for number, one in begun.numbered()
+            if one.state != state_of(one.recording) or is_over and one.state[1]]
     if any(told):
         begun.recordings = []
         pytest.fail("\n\n".join(filter(None, told)), pytrace=False)
@@ -219,9 +267,9 @@ def state_of(recording: Recording) -> State:
         return recording.lines(), recording._refusals()
 
 
-def told_of(item: pytest.Item, one: Judged, number: Optional[int], has_failed: bool, known: str = "") -> str:
-    """The verdict on a recording in words, if these aren't known, which is then saved; nothing where it is accepted, unless its test has
-    failed by itself."""
+def told_of(item: pytest.Item, one: Judged, number: Optional[int], has_failed: bool, known: str = "", is_over: bool = True) -> str:
+    """The verdict on a recording in words, if these aren't known, which is then saved; nothing where it is accepted and no call was refused, unless
+    its test has failed by itself."""
     one.state = state_of(one.recording)
     try:
         report = one.recording.judge(weak=one.weak)
@@ -231,9 +279,12 @@ def told_of(item: pytest.Item, one: Judged, number: Optional[int], has_failed: b
     else:
         is_passing = report["verdict"] == "accepted" or one.weak and report.get("weak") is True
         one.is_weak_alone = is_passing and report["verdict"] != "accepted"
-        if is_passing and not has_failed:
+        refused = [line for line in one.state[1] if is_over or not line.startswith(NEVER_CAME)]
+        if is_passing and not has_failed and not refused:
             return ""
         told = explained(one, report["verdict"], is_passing)
+        if is_passing and refused:
+            told = f"{WEAK_ALONE if one.is_weak_alone else 'accepted'}, but this is no pass: {refused[0]}\n\n{told}"
     return ("" if told == known else f"{told}\n\n") + saved(item, one.recording, number)
 
 
@@ -268,19 +319,36 @@ def remove_saved(item: pytest.Item, begun: Begun) -> None:
     """Removes what an earlier run of the test has saved of these recordings, which are accepted now."""
     for number, _ in begun.numbered():
         path = path_of(item, number)
-        for left in path, Path(f"{path}.lines"):
-            with contextlib.suppress(OSError):  # most often there is none
-                os.remove(left)
+        of_runs = [] if getattr(item.config, RUN, "") else path.parent.glob(f"{glob.escape(path.stem)}-run*.trace")
+        for trace in [path, *filter(has_ended, of_runs)]:
+            for left in trace, Path(f"{trace}.lines"):
+                with contextlib.suppress(OSError):  # most often there is none
+                    os.remove(left)
+
+
+def has_ended(trace: Path) -> bool:
+    """Whether the run of pytest has ended that saved a trace beside another run."""
+    run = OF_RUN.search(trace.name)
+    if run is None:
+        return False
+    try:
+        os.kill(int(run[1]), 0)
+    except (ProcessLookupError, OverflowError):
+        return True
+    except OSError:
+        pass
+    return False
 
 
 def path_of(item: pytest.Item, number: Optional[int]) -> Path:
-    return item.config.invocation_params.dir / item.config.getoption("--failed-traces") / file_name(item.nodeid, number)
+    name = file_name(item.nodeid, number, getattr(item.config, RUN, ""))
+    return item.config.invocation_params.dir / item.config.getoption("--failed-traces") / name
 
 
-def file_name(test: str, number: Optional[int]) -> str:
-    """The name of a file that no other test has."""
+def file_name(test: str, number: Optional[int], run: str = "") -> str:
+    """The name of a file that no other test has; nor one of another run, where this one has a name."""
     plain = PLAIN.fullmatch(test) and len(test) <= MOST_LETTERS
     name = test.replace("::", "--").replace("/", "-") if plain else re.sub(r"[^A-Za-z0-9_.]+", "-", test)[:MOST_LETTERS]
     parts = [name.strip("-"), *([] if plain else [hashlib.sha256(test.encode(errors="replace")).hexdigest()[:12]]),
              *([] if number is None else [str(number)])]
-    return "-".join(parts) + ".trace"
+    return f"{'-'.join(parts)}{run}.trace"

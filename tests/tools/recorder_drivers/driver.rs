@@ -126,6 +126,7 @@ fn main() {
         let words: Vec<&str> = line.split('\t').collect();
         let done = if ["new", "stop", "stop_weak"].contains(&words[0]) {
             begin(&words).map(|new| {
+                recording.text(); // so that the old one may be dropped
                 recording = new;
                 "ok".to_string()
             })
@@ -137,4 +138,5 @@ fn main() {
         };
         println!("{}", answer(done));
     }
+    recording.text();
 }
