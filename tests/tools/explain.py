@@ -103,6 +103,18 @@ WORDS = [
      "Between the two it inserted c. Look at what decides which of b and a comes first: once both are inserted, it must never change, "
      "whatever is inserted, deleted or received later.|If that is not the cause: look at how the position that a user sees is mapped to a place in the editor's "
      "own list; and at whether the recorder writes the position that was asked for." + stop(5, "replica 0 inserts c", together=3)),
+    ("an insert beside a deleted element, where others before it went well", 2, "0 ins a 0 : a|0 ins b 1 : a b|0 ins c 2 : a b c|0 ins z 3 : a b c z|1 recv 0 4|1 read : a b c z|"
+     "1 del a : b c z|0 ins p 1 : a p b c z|1 recv 0 5|1 read : p b c z|1 del b : p c z|0 ins q 3 : a p b q c z|1 recv 0 6|1 read : p q c z|1 del c : p q z|"
+     "0 ins r 5 : a p b q c r z|1 recv 0 7|1 read : p q r z|1 del r : p q z|0 ins s 6 : a p b q c r s z|1 recv 0 8|1 read : p q z s",
+     "Where to look|When replica 0 inserted [s] (0.8, line 22), it had [z] already, and put [s] before it. That order must hold everywhere, but 1.9 (line 24) shows [s] behind [z]. "
+     "Look at what that insert says, as replica 0 made it, and at where replica 1 placed it in line 23. Often the clock that decides between inserts does not advance when changes "
+     "arrive, or not past the last element of a paste; or the neighbour is not found; or elements are stored in runs (blocks of several), and a run is split at a wrong place: "
+     "deleted elements count too.|If inserts find their place by a neighbour, look at inserts beside deleted elements: s came to replica 1 in line 23, where its neighbour r had been "
+     "deleted. If replicas throw deleted elements away, nothing says then where the insert belongs; if they keep them, the search for its place must treat them like elements that are shown.|"
+     "If the list is sorted by position identifiers, print those of r, s and z at line 22. If they do not rise in this order, look at how the one of s was made; if they do, at how "
+     "identifiers are compared (numbers must not be compared as text).|If the editor sends positions, the position of s was perhaps not adjusted for the delete of a by 1.2 (line 9), the delete of b "
+     "by 1.4 (line 13), the delete of c by 1.6 (line 17) and the delete of r by 1.8 (line 21), which replica 1 knew and the author of s did not; or the positions of the deletes were not "
+     "adjusted for inserts that their authors had not seen." + stop(23, "replica 1 applies 0.8", 7)),
     ("a local delete whose change names another element than the one that is gone", 2, "0 ins a 0 : a|1 recv 0 1|1 ins b 1 : a b|1 del a : b|1 del c :",
      "Where to look|1.3 (line 7) says that replica 1 deleted c, which 1.2 (line 6) does not show, and no line inserts; b vanished. Look at how a local delete makes the ids of "
      "what it deletes, which its change carries; or at where the recorder takes them from." + stop(7, "replica 1 deletes c", together=6)),
