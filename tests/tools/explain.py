@@ -202,9 +202,10 @@ WORDS = [
      "When it showed|line 11 of the trace, 1.3: replica 1 read the list. Up to line 10 the session is accepted; line 11 leads to `refused 2`|"
      "before it: replica 1's 1.2 (line 8) answered c, which fits; since then it received 0.3 (line 10)|"
      "in the end replicas 0 and 1 have every change, as the receipts say, and show the same list||Where to look|Only replica 0, which inserted "
-     "[d] (0.3, line 9), shows it before [c], and only until its next receipt (line 12); the others, and replica 0 itself in 0.4 (line 13), show it behind [c]. So the insert's change "
-     "says another place than the one where the replica itself shows it: look at how a local insert is put into the list, and at what its change carries." +
-     stop(9, "replica 0 inserts d", 10, 6)),
+     "[d] (0.3, line 9), shows it before [c], and only until its next receipt (line 12); from 0.4 (line 13) on it shows it behind [c], as the others do. So the insert's change "
+     "says another place than the one where the replica itself shows it: look at how a local insert is put into the list, and at what its change carries. Or the insert was moved in "
+     "line 12, behind a server: then look at how the replica's own changes that are still on their way are adjusted for what arrives." +
+     stop(9, "replica 0 inserts d", 12, 10, 6)),
     ("a replica turns round what it reads, and has received nothing", 2, "0 ins a 0 : a|1 ins b 0 : b|0 recv 1 1|0 read : a b|1 recv 0 1|1 read : b a|1 read : a b", "Where to look|"
      "Replica 1 shows b before a in 1.2 (line 8), and a before b in 1.3 (line 9), though it received and changed nothing between. Something that is not recorded did that: behind a "
      "server, perhaps its answer to the replica's own change. Then server and replica make different things of one change: look at which changes each of them adjusts it for. Client "
@@ -413,7 +414,7 @@ WORDS = [
     ("a delete that meets an insert and a delete which did not know each other", 2, "0 ins a 0 : a|0 ins b 1 : a b|0 ins c 2 : a b c|1 recv 0 3|"
      "1 read : a b c|0 del a : b c|1 ins d 3 : a b c d|0 recv 1 2|0 read : b c d|1 del c : a b d|0 recv 1 3|0 read : b c",
      "It looks as if 1.3 (line 12), applied at replica 0, deleted d instead of c: look at how a replica that applies a delete finds the element, and at whether the recorder "
-     "writes the name of the element that was deleted.|If the editor sends positions, the position of 1.3 was perhaps not adjusted for the delete of a by 0.4 (line 8), which the author of 1.3 had not seen; or an insert that replica 0 received before was not adjusted for a delete that its author had not seen." + stop(13, "replica 0 applies 1.3")),
+     "writes the name of the element that was deleted.|If the editor sends positions, the position of 1.3 was perhaps not adjusted for the delete of a by 0.4 (line 8), which the author of 1.3 had not seen; or an insert that replica 0 received before was not adjusted for a delete that the insert's author had not seen." + stop(13, "replica 0 applies 1.3")),
     ("a delete that takes what is deleted later", 2, "0 ins a 0 : a|0 ins b 1 : a b|1 recv 0 2|1 read : a b|1 del a : b|0 ins c 0 : c a b|0 recv 1 2|"
      "0 read : a b|0 del c : a b",
      "It looks as if 1.2 (line 7), applied at replica 0, deleted c instead of a: look at how a replica that applies a delete finds the element, and at whether the recorder "
@@ -1641,6 +1642,19 @@ def kinds(tally: Tally, program: str, folder: str) -> None:
     explained_there = Path(folder, "kinds.xml").read_text()
     tally.check("kinds: of many", many.returncode == 1 and "rint both identifiers" in explained_there and "If the list is sorted" not in explained_there
                 and json.loads(many.stdout)["causes"] == ["concurrent", "identifiers"], (many, explained_there))
+    turned = str(ROOT / "examples" / "prosemirror_text_changes_places.trace")
+    own = "the replica's own changes that are still on their way are adjusted for what arrives, and at how it takes them back and applies them anew"
+    of_turned = {"": "(rebasing), look at where that puts them.", "neighbours": "once both are inserted, it must never change", "positions": f"Look at how {own}",
+                 "identifiers": "Print the position identifiers of a, x and b at line 7."}
+    for kind, wanted in of_turned.items():
+        told = explain(program, [*(["--editor", kind] if kind else []), turned]).out.decode()
+        tally.check(f"kinds: {kind or 'none'}: a replica that turns its own round", wanted in told and ("decides which of b and a" in told) == (kind != "positions")
+                    and (" those of " in told) == (not kind), told)
+    path.write_text(text_of(2, f"{BESIDE_DELETED}|0 recv 1 2|0 read : c d"))
+    for kind, line in ("neighbours", 9), ("positions", 12):
+        told = explain(program, ["--editor", kind, str(path)]).out.decode()
+        tally.check(f"kinds: {kind}: what its author alone shows", (f"Look first at what is done in line 12: at how {own}" in told) == (kind == "positions")
+                    and f"\n  stop before line {line} of the trace" in told and ("at what its change carries." in told) == (kind == "neighbours"), told)
     path.write_text(text_of(1, "0 ins a 0 : a"))
     tally.check("kinds: nothing of an accepted trace", hint not in explain(program, [str(path)]).out)
 
@@ -1655,7 +1669,8 @@ def named_as_operations(tally: Tally, program: str, folder: str) -> None:
         got = explain(program, ["--small", str(small), str(path)])
         told = got.out.decode()
         letters = shown[0].removesuffix(first)
-        is_said = f"have {letters} before their names here.)" in told.splitlines()[0] if letters else "before their names" not in told
+        like = first if letters else ""
+        is_said = f"({letters}{like} is your element {like}: names that look like operations' have " in told.splitlines()[0] if letters else "is your element" not in told
         tally.check(f"named as operations: {first} {then}", is_said and f"[{shown[0]}] before [{shown[1]}]: line 7 of the trace, 0.2: replica 0 read the list, answered [{shown[0]}] [{shown[1]}]" in told
                     and f"{shown[0]}: inserted by 0.1 (line 3)" in told and got.status == 1, told)
         tally.check(f"named as operations: {first} {then}: a small trace", sorted(small.read_text().splitlines()) == sorted(path.read_text().splitlines()), small.read_text())

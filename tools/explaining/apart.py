@@ -48,6 +48,9 @@ def with_letters(report: dict, letters: str) -> dict:
     return changed
 
 
-def words_on(letters: str) -> str:
+def words_on(apart: Apart) -> str:
     """The sentence that says so, behind the headline."""
-    return f" (Elements that are named as operations are have {letters} before their names here.)" if letters else ""
+    if not apart.letters:
+        return ""
+    name = re.search(rf" {apart.letters}({LIKE})(?= |$)", apart.text, re.MULTILINE)[1]
+    return f" ({apart.letters}{name} is your element {name}: names that look like operations' have {'an e' if apart.letters == 'e' else apart.letters} before them here.)"

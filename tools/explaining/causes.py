@@ -47,11 +47,13 @@ WRONG_DELETE = ("It looks as if {delete}, applied at replica {replica}, deleted 
                 "delete finds the element, and at whether the recorder writes the name of the element that was deleted.")
 WRONG_LOCAL_DELETE = ("It looks as if {delete} deleted {missing} instead of {surplus}: look at how a local delete finds the element, and at whether the recorder writes the name "
                       "of the element that was deleted.")
+WRONG_POSITION = ("It looks as if {delete}, applied at replica {replica}, deleted {missing} instead of {surplus}: look at how its position is adjusted there, also for the replica's "
+                  "own changes that are still on their way; and at whether the recorder writes the name of the element that was deleted.")
 MISNAMED = ("{delete} says that replica {replica} deleted {element}, which {before} does not show{unknown}; {missing} vanished. Look at how a local delete makes the ids of "
             "what it deletes, which its change carries; or at where the recorder takes them from.")
 MOVED_DELETE = ("If the editor sends positions, the position of {delete} was perhaps not adjusted for {changes}, which the author of {delete} had "
                 "not seen{back}.{tie}")
-MOVED_BEFORE = "; or an insert that replica {replica} received before was not adjusted for a delete that its author had not seen"
+MOVED_BEFORE = "; or an insert that replica {replica} received before was not adjusted for a delete that the insert's author had not seen"
 PUT_AT_ONCE = {True: " At the place of {element} also {others} was inserted, and neither author had the other's insert. Look also at which of them comes first.",
                False: " At the place of {element} also {others} were inserted; their authors did not have {element}, nor its author theirs. Look also at which of "
                       "them comes first."}
@@ -62,8 +64,8 @@ REPLACED = ("Replica {replica} showed {missing} in {before}; since then it only 
 VANISHED = "Replica {replica} answered what is right in {before}, and has received nothing since. Look at what replica {replica} itself does between the two{unrecorded}"
 TOO_MUCH = ("It looks as if {deletes}{applied} deleted {missing} along with {theirs}: {missing} stood there in {before}, and no delete of {it} has come there. Look at where "
             "the replica begins to delete there, and at how many elements it deletes.")
-SECOND_DELETE = ("It looks as if {again}{applied} deleted {missing} instead of {element}: look at how a replica that applies a delete "
-                 "finds the element. {element} was already deleted there, by {first}, so look also at what the editor does with a delete whose element is gone.")
+SECOND_DELETE = ("It looks as if {again}{applied} deleted {missing} instead of {element}: look at how {found}. {element} was already deleted there, by {first}, so look also at what the editor does with a delete whose element is gone.")
+FOUND = {True: "its position is adjusted there, also for the replica's own changes that are still on their way", False: "a replica that applies a delete finds the element"}
 CAUSAL = ("The engine may be right: operations must arrive in causal order. Apply an operation only after everything that its author had seen, or send all of that together with it. If the editor itself holds operations "
           f"back, write the receipt of each only when it is applied. {GUIDE} shows what to record in each case.")
 OVERTAKEN = "Look at the order in which operations arrive: {name} was overtaken, as told above. " + CAUSAL
@@ -86,10 +88,12 @@ SORTED = ("If the list is sorted by position identifiers, look at those of {name
           "replicas, are numbers compared as text, or was one not made between its neighbours'?{circle}")
 NO_ORDER = " Or does the comparison go in a circle, as when numbers and authors are compared by turns?"
 REORDERED = ("Replica {replica} itself changed the order of elements that it had shown: {one} before {two} in {before}, {two} before {one} in {after}. Between the two "
-             "it {did}. Look at what decides which of {two} and {one} comes first: once both are inserted, it must never change, whatever is inserted, deleted "
-             "or received later.")
+             "it {did}. Look at {look}")
+DECIDES = ("what decides which of {two} and {one} comes first: once both are inserted, it must never change, whatever is inserted, deleted "
+           "or received later.")
 MAPPING = ("Look at how the position that a user sees is mapped to a place in the editor's own list{deleted}; and at whether the "
            "recorder writes the position that was asked for.")
+ADJUSTS = "how what comes is adjusted there for the replica's own changes that are still on their way, and these for what comes."
 OWN_BACK_AGAIN = "When {came} came, {back}, which replica {replica} had deleted itself ({delete}), came back{lost}. Look at "
 OWN_ADJUSTED = "how the replica's own changes that are still on their way are adjusted for what arrives, and at how it takes them back and applies them anew, if it does."
 SHOWN_AGAIN = ("what applies that there: is an element that is marked as deleted shown again, made anew by an insert that arrives a second time, or brought back by a state that "
@@ -163,9 +167,13 @@ OF_AUTHOR_OR_PLACE = "Look at what that insert says, as replica {author} made it
 BETWEEN_THE_TWO = "Look at what replica {author} did between the two"
 SEEN_IN_CYCLE = ("When replica {author} inserted [{new}] ({later}, line {line}), it had [{old}] already{since}, and put [{new}] {side} it: look at whether that insert says so too, and by "
                  "its number.{numbers}")
-SHOWN_ALONE = ("Only replica {replica}, which inserted [{new}] ({insert}, line {line}), shows it {side} [{old}], and only until its next receipt (line {receipt}); the "
-               "others, and replica {replica} itself in {own}, show it {other_side} [{old}]. So the insert's change "
-               "says another place than the one where the replica itself shows it: look at how a local insert is put into the list, and at what its change carries.")
+SHOWN_ALONE = ("Only replica {replica}, which inserted [{new}] ({insert}, line {line}), shows it {side} [{old}], and only until its next receipt (line {receipt}); from {own} on it shows it "
+               "{other_side} [{old}], as the others do. ")
+ANOTHER_PLACE = ("So the insert's change says another place than the one where the replica itself shows it: look at how a local insert is put into the list, and at what its change "
+                 "carries.")
+MOVED_THEN = "Look first at what is done in line {receipt}: at how the replica's own changes that are still on their way are adjusted for what arrives, and at how it takes them back and applies them anew, if it does"
+ALONE_BY = {"": ANOTHER_PLACE + " Or the insert was moved in line {receipt}, behind a server: then look at how the replica's own changes that are still on their way are adjusted for what arrives.",
+            NEIGHBOURS: ANOTHER_PLACE, TREE: ANOTHER_PLACE, IDENTIFIERS: ANOTHER_PLACE, POSITIONS: MOVED_THEN + "; and then at what the insert's change carries."}
 TURNED_BY_ITSELF = ("Replica {replica} shows {two} before {one} in {before}, and {one} before {two} in {after}, though it received and changed nothing between. Something that is not "
                     "recorded did that: ")
 MOVED_INSERT = ("If the editor sends positions, the position of {element} was perhaps not adjusted for {changes}, which replica {replica} "
@@ -346,7 +354,7 @@ def wrong_delete(evidence: Evidence, operation: Operation) -> list:
     is_deleted = earlier and not all(evidence.otherwise)  # by what no receipt brings, and that alone tells it
     if is_deleted or not news or is_new or not any(map(operation.has_seen, inserts)):
         return []
-    look = WRONG_LOCAL_DELETE if news[0] is operation else WRONG_DELETE
+    look = WRONG_LOCAL_DELETE if news[0] is operation else WRONG_POSITION if evidence.kind == POSITIONS else WRONG_DELETE
     return [Cause("wrong delete", look.format(delete=at(news[0]), replica=operation.replica, missing=missing, surplus=surplus)), *moved_delete(evidence, news[0])]
 
 
@@ -434,7 +442,7 @@ def second_delete(evidence: Evidence) -> list:
     found = evidence.second_deletes[:1]
     replica = evidence.operations[0].replica
     return [Cause("second delete", SECOND_DELETE.format(again=at(again), element=again.element, first=at(first), missing=listed(evidence.lost, MOST_TOLD),
-                                                        applied="" if again.replica == replica else f", applied at replica {replica},"))
+                                                        found=FOUND[evidence.kind == POSITIONS], applied="" if again.replica == replica else f", applied at replica {replica},"))
             for again, first in found] + [one for again, _ in found for one in moved_delete(evidence, again)]
 
 
@@ -457,7 +465,7 @@ def of_position(evidence: Evidence) -> list:
     response, name = operation.response, operation.element
     asked = place_asked(operation, response)
     has_delete = any(operation.has_seen(delete) for deletes in evidence.recording.deletes.values() for delete in deletes)
-    mapped = MAPPING.format(deleted=" (deleted elements may still stand there)" if has_delete else "")
+    mapped = MAPPING.format(deleted=" (deleted elements may still stand there)" if has_delete and evidence.kind not in (IDENTIFIERS, POSITIONS) else "")
     first = reordered(evidence)
     if first:
         return [*first, Cause("mapping", otherwise("If that is not the cause", mapped))]
@@ -508,8 +516,10 @@ def reordered(evidence: Evidence) -> list:
     if after.kind == "del":
         others = [delete.element for delete in evidence.made_before(after)]
         done.append(f"deleted {after.element}" + (f" (directly after {listed(others, MOST_TOLD)})" if others else ""))
+    is_own = any(insert.replica == after.replica for name in (one, two) for insert in evidence.recording.inserts[name])
+    look = DECIDES.format(one=one, two=two) if evidence.kind != POSITIONS else OWN_ADJUSTED if is_own else ADJUSTS
     return [Cause("reordered", REORDERED.format(replica=after.replica, one=one, two=two, before=at(before), after=at(after),
-                                                did=joined(done) or "received no change"))]
+                                                did=joined(done) or "received no change", look=look))]
 
 
 def identifiers(insert: Operation, before: list, behind: list) -> list:
@@ -580,18 +590,20 @@ def of_refusal(evidence: Evidence, weak: bool) -> list:
     moved = moved_over(evidence)
     told = seen(evidence, later, old, not (weak and moved))
     told += put_meanwhile(evidence, later) or put_meanwhile(evidence, old)
-    if weak and moved:
+    if weak and moved and evidence.kind != POSITIONS:
         return [*turned_by_itself(evidence), *lost(evidence), *shown_alone(evidence), *reordered(evidence), Cause("seen", told), *moved_insert(moved), *beside_deleted(evidence)]
     place = later.response.index(later.element)
     beside = later.response[max(place - 1, 0):place + 2]
     names = [name for name in later.response if name in beside or name == old.element]
     sorted_by = identifiers(later, names[:names.index(later.element)], names[names.index(later.element) + 1:])
-    turned = reordered(evidence)
+    alone = shown_alone(evidence)
+    turned = reordered(evidence) if not alone or evidence.kind != POSITIONS else []  # that is told already
+    if turned and evidence.kind == POSITIONS:
+        return [*turned_by_itself(evidence), *lost(evidence), *turned, *moved_insert(moved)]
     if turned and first.replica == then.replica == evidence.reordered[3].replica:
         last = Cause("rebased", REBASED.format(replica=first.replica, one=first.element, two=then.element))
     else:
         last = Cause("seen", told)
-    alone = shown_alone(evidence)
     gone = beside_deleted(evidence, bool(alone))
     return [*turned_by_itself(evidence), *lost(evidence), *alone, *turned, *([last, *gone] if evidence.is_fine_beside_deleted else [*gone, last]), *sorted_by, *moved_insert(moved)]
 
@@ -641,8 +653,8 @@ def shown_alone(evidence: Evidence) -> list:
     insert, other, receipt, own = evidence.shown_alone
     names = [name for name in insert.response if name in (insert.element, other.element)]
     side, other_side = ("before", "behind")[::1 if names[0] == insert.element else -1]
-    return [Cause("shown alone", SHOWN_ALONE.format(replica=insert.replica, new=insert.element, insert=insert.name, line=insert.line, old=other.element, side=side,
-                                                     other_side=other_side, receipt=receipt.line, own=at(own)))]
+    return [Cause("shown alone", (SHOWN_ALONE + ALONE_BY[evidence.kind]).format(
+        replica=insert.replica, new=insert.element, insert=insert.name, line=insert.line, old=other.element, side=side, other_side=other_side, receipt=receipt.line, own=at(own)))]
 
 
 def turned_by_itself(evidence: Evidence) -> list:

@@ -2,6 +2,7 @@
 from __future__ import annotations
 
 from .evidence import Evidence
+from .kinds import POSITIONS
 from .recordings import FIRST_ENTRY, Operation, Receipt, Recording
 
 TITLE = "In a debugger"
@@ -36,8 +37,10 @@ def stop_of(evidence: Evidence) -> tuple:
         arrived = {arrival.receipt.line: arrival.receipt for arrival in evidence.arrivals
                    if not evidence.recording.is_delivered(arrival.receipt.line)}
         *others, entry = list(arrived.values()) or [max(evidence.operations, key=lambda operation: operation.line)]
-        first = evidence.shown_alone[0] if evidence.shown_alone else reordering(evidence) or came_between(evidence)
+        first = shown_alone(evidence) or reordering(evidence) or came_between(evidence)
         arrivals = [entry, *others[::-1]] if arrived else []
+        if evidence.shown_alone and evidence.shown_alone[2].line not in arrived:
+            arrivals.insert(0, evidence.shown_alone[2])
         return (first, [other for other in arrivals if other.line != first.line]) if first else (entry, others[::-1])
     named = evidence.operations[0]
     if evidence.report["verdict"] == "contents" and evidence.undelivered:
@@ -51,6 +54,14 @@ def stop_of(evidence: Evidence) -> tuple:
         received = [] if added and not left_out else evidence.before(named)[1]  # where a receipt is missing, none of these is at fault
         return [*second, *overtaking, *not_applied, *received, named][0], []
     return named, []
+
+
+def shown_alone(evidence: Evidence) -> Operation | Receipt | None:
+    """Of an insert that its author shows alone, and only until its next receipt: the insert; but this receipt, where positions are adjusted then."""
+    if evidence.shown_alone is None:
+        return None
+    insert, _, receipt, _ = evidence.shown_alone
+    return receipt if evidence.kind == POSITIONS else insert
 
 
 def reordering(evidence: Evidence) -> Operation | Receipt | None:

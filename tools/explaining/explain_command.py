@@ -144,7 +144,7 @@ def explain(asked: argparse.Namespace, program: str, trace: bytes, side: Side, j
     apart = told_apart(trace.decode(), judged.report)
     evidence = Evidence(Recording(apart.text, tuple(asked.delivered) or known.delivered), apart.report, kind=asked.editor)
     words, told = explained(evidence, report_of(program), asked.language or known.language or USUAL, asked.weak)
-    words = words._replace(headline=words.headline + words_on(apart.letters))
+    words = words._replace(headline=words.headline + words_on(apart))
     is_alone = asked.weak and is_weak_alone(judged.report)
     refused = tuple(map(shown, asked.refused)) or known.refused
     hidden = warnings_of(judged.report["verdict"], trace, side, is_alone, refused)

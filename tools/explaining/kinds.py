@@ -4,6 +4,7 @@ from __future__ import annotations
 
 import os
 import re
+from functools import partial
 
 VARIABLE = "DOMEPEELER_EDITOR"
 NEIGHBOURS, TREE, IDENTIFIERS, POSITIONS = "neighbours", "tree", "identifiers", "positions"
@@ -54,9 +55,15 @@ def without_conditions(told: str, kind: str) -> str:
     """The words without the conditions that hold of this kind."""
     for condition, kinds in CONDITIONS.items():
         if kind in kinds:
-            told = re.sub(rf"\b([Ii]){condition}(.)", lambda found: found[2].upper() if found[1] == "I" else found[2], told)
+            told = re.sub(rf"\b([Ii]){condition}(.*? those of )?(.)", partial(unconditional, "position identifiers"), told)
     later = OF_POSITIONS.partition(", ")[2]
     return told.replace(f" {OF_POSITIONS}", f" {later[0].upper()}{later[1:]}" if kind == POSITIONS else "")
+
+
+def unconditional(what: str, found: re.Match) -> str:
+    """The beginning of words whose condition is left out: what `those` stood for in it is named."""
+    said = (found[2] or "").replace("those of", f"the {what} of") + found[3]
+    return (said[0].upper() if found[1] == "I" else said[0]) + said[1:]
 
 
 def is_possible(cause: str, kind: str) -> bool:

@@ -158,7 +158,7 @@ def explanation_of(row: Row, request: Request, trace: bytes, known: Beside) -> t
         apart = told_apart(trace.decode(), row.report)
         evidence = Evidence(Recording(apart.text, known.delivered), apart.report, kind=request.editor)
         words, told = explained(evidence, report_of(request.program), known.language or USUAL, request.weak)
-        words = words._replace(headline=words.headline + words_on(apart.letters))
+        words = words._replace(headline=words.headline + words_on(apart))
         about = listed(told.elements, MOST_STEPS) if told.report["verdict"] == "refused" else ""
         return text_of(with_places(with_warnings(words, row.warnings or [], known.refused), known)), about
     except (Unexplained, NoProgram, ValueError, LookupError, MemoryError):

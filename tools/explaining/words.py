@@ -95,7 +95,8 @@ def when_it_went_wrong(evidence: Evidence, told: Evidence, weak: bool) -> list:
     lines = [f"{did(entry, is_first=True)}. Up to line {last - 1} {before}; line {last} leads to {verdict}"]
     if told.report["verdict"] == "refused":
         still = "agrees with all responses up to then" if weak and not is_alone else "fits"
-        lines += [since(told, entry, still), *([] if told.unreceived else in_the_end(evidence.recording))]
+        is_refused = evidence.report["verdict"] == "refused"  # else what is shown in the end is wrong by itself
+        lines += [since(told, entry, still), *(in_the_end(evidence.recording) if is_refused and not told.unreceived else [])]
     else:
         lines.append(f"the first {last} lines are enough to show it (`head -{last}`)")
     went = "When it showed" if told.report["verdict"] == "refused" else "When it went wrong"  # which of two responses is wrong, nothing says
