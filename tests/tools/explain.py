@@ -116,8 +116,8 @@ WORDS = [
      "by 1.4 (line 13), the delete of c by 1.6 (line 17) and the delete of r by 1.8 (line 21), which replica 1 knew and the author of s did not; or the positions of the deletes were not "
      "adjusted for inserts that their authors had not seen." + stop(23, "replica 1 applies 0.8", 7)),
     ("a local delete whose change names another element than the one that is gone", 2, "0 ins a 0 : a|1 recv 0 1|1 ins b 1 : a b|1 del a : b|1 del c :",
-     "Where to look|1.3 (line 7) says that replica 1 deleted c, which 1.2 (line 6) does not show, and no line inserts; b vanished. Look at how a local delete makes the ids of "
-     "what it deletes, which its change carries; or at where the recorder takes them from." + stop(7, "replica 1 deletes c", together=6)),
+     "Where to look|1.3 (line 7) deletes c; but c does not stand in 1.2 (line 6) and no line inserts it, while b is gone. Look at which ids a local delete puts into "
+     "the change that it sends: of several elements each has its own, which need not follow from the one before." + stop(7, "replica 1 deletes c", together=6)),
     ("deletes that come together, of which the first finds nothing", 2, "0 ins a 0 : a|0 ins b 1 : a b|0 ins c 2 : a b c|1 recv 0 3|1 read : a b c|1 del a : b c|"
      "0 del a : b c|0 del b : c|1 recv 0 5|1 read : b c", "Where to look|"
      "0.4 (line 9) and 0.5 (line 10) were made one after the other, and came to replica 1 together; there a was deleted already, by 1.2 (line 8), and b is "
@@ -201,8 +201,8 @@ WORDS = [
     ("a session that goes on, with one list in the end", 2, f"{BESIDE_DELETED}|0 recv 1 2|0 read : c d",
      "When it showed|line 11 of the trace, 1.3: replica 1 read the list. Up to line 10 the session is accepted; line 11 leads to `refused 2`|"
      "before it: replica 1's 1.2 (line 8) answered c, which fits; since then it received 0.3 (line 10)|"
-     "in the end replicas 0 and 1 have every change, as the receipts say, and show the same list||Where to look|Only replica 0, which inserted "
-     "[d] (0.3, line 9), shows it before [c], and only until its next receipt (line 12); from 0.4 (line 13) on it shows it behind [c], as the others do. So the insert's change "
+     "in the end replicas 0 and 1 have every change, as the receipts say, and show the same list||Where to look|Replica 0, which inserted "
+     "[d] (0.3, line 9), shows it before [c] until its next receipt (line 12), and no other replica does; from 0.4 (line 13) on it shows it behind [c], as the others do. So the insert's change "
      "says another place than the one where the replica itself shows it: look at how a local insert is put into the list, and at what its change carries. Or the insert was moved in "
      "line 12, behind a server: then look at how the replica's own changes that are still on their way are adjusted for what arrives." +
      stop(9, "replica 0 inserts d", 12, 10, 6)),
@@ -215,7 +215,7 @@ WORDS = [
      "replica's own change does there." + stop(10, "replica 1 reads the list")),
     ("a beginning that shows something else", 3, f"{THREE_WAY}|1 recv 0 2|1 recv 2 1|1 read : a b",
      "refused 3: three responses can't be right together. Any two of them can. This is what went wrong first, within the "
-     "first 11 lines. The verdict on the whole trace is `refused 2` (told below).||"
+     "first 11 lines: begin with it. The verdict on the whole trace is `refused 2`, told at the end.||"
      "When it showed|line 11 of the trace, 0.3: replica 0 read the list. Up to line 10 the session is accepted; line 11 leads to "
      "`refused 3`|"
      "before it: replica 0's 0.2 (line 8) answered (nothing), which fits; since then it received 1.1 (line 9), 2.1 (line 10)|"
@@ -229,7 +229,7 @@ WORDS = [
      "Where to look|"
      "Look at positions beside deleted elements: any two of 2.1, 0.3 and 1.1 fit together, all three don't; perhaps an insert lost its place "
      "because its neighbour was deleted meanwhile. Look first at where replica 0 placed b in line 10, beside x, which had been deleted there.|"
-     "For the verdict on the whole trace (told below): look at where a replica places an incoming insert beside a deleted element: [a] was put before [x] (1.1, line 6), and [b] behind it (2.1, line 7), so [x] settles their order, also where it is deleted; yet they were shown in two different orders. No rule for concurrent inserts at one place may decide here.|For the verdict on the whole trace (told below): if the list is sorted by position identifiers, look at those of a and b: are the two equal, does one differ between replicas, are numbers compared as text, or was one not made between its neighbours'?|For the verdict on the whole trace (told below): if the editor sends positions, the position of b was perhaps not adjusted for the delete of x by 0.2 (line 8), which replica 1 "
+     "For the verdict on the whole trace (told at the end): look at where a replica places an incoming insert beside a deleted element: [a] was put before [x] (1.1, line 6), and [b] behind it (2.1, line 7), so [x] settles their order, also where it is deleted; yet they were shown in two different orders. No rule for concurrent inserts at one place may decide here.|For the verdict on the whole trace (told at the end): if the list is sorted by position identifiers, look at those of a and b: are the two equal, does one differ between replicas, are numbers compared as text, or was one not made between its neighbours'?|For the verdict on the whole trace (told at the end): if the editor sends positions, the position of b was perhaps not adjusted for the delete of x by 0.2 (line 8), which replica 1 "
      "knew and the author of b did not; or the position of the delete was not adjusted for an insert that the author of the delete had not seen.|"
      "" + stop(10, "replica 0 applies 2.1", 9, 5, 4, together=9) + "||What the whole trace shows: a circle, which no order allows|"
      "[a] before [b]: line 14, 1.2: replica 1 read the list, answered [a] [b]|"
@@ -435,15 +435,15 @@ WORDS = [
      "late, or names another operation." + stop(8, "replica 1 reads the list")),
     ("an element lost that was there before, beside one that came", 2, "0 ins a 0 : a|1 recv 0 1|1 read : a|0 ins b 1 : a b|1 recv 0 2|1 read : b",
      "Missing|[a] is never deleted||Where to look|"
-     "Replica 1 showed a in 1.1 (line 5); since then it only received the insert of b by 0.2 (line 6), and none of what has come deletes it. Look at what 0.2 does there: "
+     "Replica 1 showed a in 1.1 (line 5); since then it only received the insert of b by 0.2 (line 6), and nothing that came deletes a. Look at what 0.2 does there: "
      "does an arriving state replace the replica's own, or does the editor take back its own changes when others' arrive?|"
-     "If that is not the cause: check three things, one after the other. Recorder: `received` must be called right after the change is applied. Transport: a change must arrive after "
-     f"all those that its author had seen. Editor: does it lose a change, apply it twice, or apply it to another element? {GUIDE} says where the calls "
+     "If that is not the cause: check two things, one after the other. Recorder: `received` must be called right after the change is applied. "
+     f"Editor: does it lose a change, apply it twice, or apply it to another element? {GUIDE} says where the calls "
      "go." + stop(7, "replica 1 applies 0.2")),
     ("an element that no line inserts", 1, "0 ins a 0 : a|0 read : a x",
      "[x] no operation of this trace inserts it||Where to look|No line inserts x. Perhaps the insert was not recorded, or under another name; or the document was not empty at first: "
-     "then let one replica insert what was there, and the others receive it.|If that is not the cause: check three things, one after the other. Recorder: `received` must be "
-     f"called right after the change is applied. Transport: a change must arrive after all those that its author had seen. Editor: does it lose a change, apply it twice, or apply it "
+     "then let one replica insert what was there, and the others receive it.|If that is not the cause: check two things, one after the other. Recorder: `received` must be "
+     f"called right after the change is applied. Editor: does it lose a change, apply it twice, or apply it "
      f"to another element? {GUIDE} says where the calls go." + stop(4, "replica 0 reads the list")),
     ("a deleted element settles the order of two others", 3, "0 ins x 0 : x|1 recv 0 1|2 recv 0 1|1 ins a 0 : a x|2 ins b 1 : x b|0 del x :|1 recv 0 2|1 recv 2 1|1 read : a b|"
      "0 recv 1 1|0 recv 2 1|0 read : b a", "refused 2: two responses can't be right together.||Where to look|"
@@ -467,8 +467,8 @@ WORDS = [
      "b was put behind a (0.2 (line 4)), which is deleted at replica 1 by now: so c belongs beside a deleted element. Look at how an insert finds its place there; in a tree of elements, "
      "at how the children of a deleted one are shown: all of its left side come before all of its right side.|"),
     ("a wrong response before the one that the program names", 2, "1 ins a 0 : a|1 read :|0 recv 1 1|0 read : a|0 read :|1 read : a",
-     "contents 1.2: this response lacks one element that replica 1 should have had by then. This is what went wrong first, within the first 4 lines. The verdict on "
-     "the whole trace is `contents 0.2` (told below).||When it went wrong|"
+     "contents 1.2: this response lacks one element that replica 1 should have had by then. This is what went wrong first, within the first 4 lines: begin with it. The verdict on "
+     "the whole trace is `contents 0.2`, told at the end.||When it went wrong|"
      "line 4 of the trace, 1.2: replica 1 read the list. Up to line 3 the session is accepted; line 4 leads to `contents 1.2`|"
      "the first 4 lines are enough to show it (`head -4`)||The response|line 4 of the trace, 1.2: replica 1 read the list|answered: (nothing)|"
      "[a] inserted by 1.1 (line 3), an earlier operation of replica 1|[a] is never deleted||Where to look|"
@@ -1008,8 +1008,8 @@ def beginning(tally: Tally, program: str, text: str, report: dict, said: str) ->
     tally.check("refused: what it showed then, and the whole trace", steps == wanted, f"{text}{report}\n{said}")
     titles = [line for line in front.splitlines() if line.startswith("What the")]
     tally.check("refused: under which title", titles == ["What these responses show: a circle, which no order allows"], said)
-    others = " too, by other responses" if behind["k"] == report["k"] else " (told below)"
-    ending = f" This is what went wrong first, within the first {last} lines. The verdict on the whole trace is `refused {report['k']}`{others}."
+    others = " too, by other responses" if behind["k"] == report["k"] else ", told at the end"
+    ending = f" This is what went wrong first, within the first {last} lines: begin with it. The verdict on the whole trace is `refused {report['k']}`{others}."
     headline = said.splitlines()[0]
     tally.check("refused: the whole trace's number", (ending in headline if is_other else "This is what went wrong first" not in headline)
                 and said.startswith(f"refused {behind['k']}: "), said)
@@ -1038,7 +1038,7 @@ def sooner(tally: Tally, program: str, text: str, report: dict, said: str) -> tu
     tally.check("a fault: when it went wrong", is_right if wanted else not told, f"{text}{report}\n{said}")
     headline, is_other = said.splitlines()[0], of_whole != of_first
     tally.check("a fault: its headline", headline.startswith(of_first.partition(" ")[0]) and headline.endswith(
-        f" This is what went wrong first, within the first {count} lines. The verdict on the whole trace is `{of_whole}` (told below).") == is_other
+        f" This is what went wrong first, within the first {count} lines: begin with it. The verdict on the whole trace is `{of_whole}`, told at the end.") == is_other
                 and ("the whole trace" in headline) == is_other, f"{text}{report}\n{said}")
     tally.check("a fault: what the whole trace names", bool(paragraph(said, "What the verdict on the whole trace is about")) == is_other,
                 f"{text}{report}\n{said}")
@@ -1670,7 +1670,7 @@ def named_as_operations(tally: Tally, program: str, folder: str) -> None:
         told = got.out.decode()
         letters = shown[0].removesuffix(first)
         like = first if letters else ""
-        is_said = f"({letters}{like} is your element {like}: names that look like operations' have " in told.splitlines()[0] if letters else "is your element" not in told
+        is_said = f"({letters}{like} is your element {like}, and {like} alone the operation: their names look alike.)" in told.splitlines()[0] if letters else "is your element" not in told
         tally.check(f"named as operations: {first} {then}", is_said and f"[{shown[0]}] before [{shown[1]}]: line 7 of the trace, 0.2: replica 0 read the list, answered [{shown[0]}] [{shown[1]}]" in told
                     and f"{shown[0]}: inserted by 0.1 (line 3)" in told and got.status == 1, told)
         tally.check(f"named as operations: {first} {then}: a small trace", sorted(small.read_text().splitlines()) == sorted(path.read_text().splitlines()), small.read_text())

@@ -53,4 +53,4 @@ def words_on(apart: Apart) -> str:
     if not apart.letters:
         return ""
     name = re.search(rf" {apart.letters}({LIKE})(?= |$)", apart.text, re.MULTILINE)[1]
-    return f" ({apart.letters}{name} is your element {name}: names that look like operations' have {'an e' if apart.letters == 'e' else apart.letters} before them here.)"
+    return f" ({apart.letters}{name} is your element {name}, and {name} alone the operation: their names look alike.)"

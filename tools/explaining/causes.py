@@ -8,7 +8,7 @@ from typing import NamedTuple
 
 from .evidence import Evidence
 from .kinds import BY_ELEMENTS, IDENTIFIERS, NEIGHBOURS, POSITIONS, TREE, fitting, is_possible
-from .positions import are_put_at_once, elements_before, met, met_before, met_inserts, neighbours, put_there_at_once
+from .positions import are_put_at_once, elements_before, met, met_before, met_inserts, neighbours, not_behind, put_there_at_once
 from .programs import GUIDE
 from .recordings import Operation, place_asked
 from .telling import at, counted, joined, listed
@@ -17,9 +17,10 @@ ALONE = "weak alone"  # the name of the last cause: that weak holds
 MOST_TOLD = 3  # deletes, or elements, that are told one by one
 MOST_MET = 6  # changes for which a position was perhaps not adjusted
 
-ARRIVAL = ("Check three things, one after the other. Recorder: `received` must be called right after the change is applied. Transport: a change must "
-           "arrive after all those that its author had seen. Editor: does it lose a change, apply it twice, or apply it to another element? "
-           f"{GUIDE} says where the calls go.")
+ARRIVAL = ("Check {things}, one after the other. Recorder: `received` must be called right after the change is applied. {transport}"
+           "Editor: does it lose a change, apply it twice, or apply it to another element? " f"{GUIDE} says where the calls go.")
+TRANSPORT = "Transport: a change must arrive after all those that its author had seen. "
+LOCAL = ("Nothing came between {before} and this, so look at the local {what} itself: what it takes from the list or puts there, and which ids it puts into the change that it sends.")
 APPLIED_TWICE = ("It looks as if {changes} {were} applied twice at replica {replica}: look at what the editor does with a change that arrives a second "
                  "time{back}, and at whether a change that was held back is applied twice: on arrival and again later.")
 OWN_BACK = " (a server may send a replica its own changes back)"
@@ -47,10 +48,13 @@ WRONG_DELETE = ("It looks as if {delete}, applied at replica {replica}, deleted 
                 "delete finds the element, and at whether the recorder writes the name of the element that was deleted.")
 WRONG_LOCAL_DELETE = ("It looks as if {delete} deleted {missing} instead of {surplus}: look at how a local delete finds the element, and at whether the recorder writes the name "
                       "of the element that was deleted.")
-WRONG_POSITION = ("It looks as if {delete}, applied at replica {replica}, deleted {missing} instead of {surplus}: look at how its position is adjusted there, also for the replica's "
-                  "own changes that are still on their way; and at whether the recorder writes the name of the element that was deleted.")
-MISNAMED = ("{delete} says that replica {replica} deleted {element}, which {before} does not show{unknown}; {missing} vanished. Look at how a local delete makes the ids of "
-            "what it deletes, which its change carries; or at where the recorder takes them from.")
+WRONG_POSITION = ("It looks as if {delete}, applied at replica {replica}, deleted {missing} instead of {surplus}: look at how its position is adjusted there, also for changes "
+                  "of the replica's own that its author had not seen; and at whether the recorder writes the name of the element that was deleted.")
+TIED = ("{one} and {two} were inserted at one place without knowing of each other, and are shown in two orders already: {one} before {two} in {before}, {two} before {one} in {after}. "
+        "Look first at the order of concurrent inserts: by another order a later position hits another element.")
+MISNAMED = ("{deletes} delete{s} {named}; but {wrong}, while {missing}. Look at which ids a local delete puts into the change that it sends{several}.")
+NOT_SHOWN = "{element} does not stand in {before}{unknown}"
+SEVERAL_IDS = ": of several elements each has its own, which need not follow from the one before"
 MOVED_DELETE = ("If the editor sends positions, the position of {delete} was perhaps not adjusted for {changes}, which the author of {delete} had "
                 "not seen{back}.{tie}")
 MOVED_BEFORE = "; or an insert that replica {replica} received before was not adjusted for a delete that the insert's author had not seen"
@@ -59,13 +63,17 @@ PUT_AT_ONCE = {True: " At the place of {element} also {others} was inserted, and
                       "them comes first."}
 UNKNOWN = ("No line inserts {names}. Perhaps the insert was not recorded, or under another name; or the document was not empty at first: then let one replica insert "
            "what was there, and the others receive it.")
-REPLACED = ("Replica {replica} showed {missing} in {before}; since then it only received {came}, and none of what has come deletes {it}. Look at what {came_first} does there: "
+REPLACED = ("Replica {replica} showed {missing} in {before}; since then it only received {came}, and nothing that came deletes {missing}. Look at what {came_first} does there: "
             "does an arriving state replace the replica's own, or does the editor take back its own changes when others' arrive?")
 VANISHED = "Replica {replica} answered what is right in {before}, and has received nothing since. Look at what replica {replica} itself does between the two{unrecorded}"
 TOO_MUCH = ("It looks as if {deletes}{applied} deleted {missing} along with {theirs}: {missing} stood there in {before}, and no delete of {it} has come there. Look at where "
             "the replica begins to delete there, and at how many elements it deletes.")
-SECOND_DELETE = ("It looks as if {again}{applied} deleted {missing} instead of {element}: look at how {found}. {element} was already deleted there, by {first}, so look also at what the editor does with a delete whose element is gone.")
-FOUND = {True: "its position is adjusted there, also for the replica's own changes that are still on their way", False: "a replica that applies a delete finds the element"}
+SECOND_DELETE = {
+    False: "It looks as if {again}{applied} deleted {missing} instead of {element}: look at how a replica that applies a delete finds the element. {element} was already deleted "
+           "there, by {first}, so look also at what the editor does with a delete whose element is gone.",
+    True: "It looks as if {again}{applied} deleted {missing}. Its own element, {element}, was already deleted there, by {first}: such a delete must change nothing. Look at what the "
+          "editor does with it; and at how its position is adjusted there, also for changes of the replica's own that its author had not seen.",
+}
 CAUSAL = ("The engine may be right: operations must arrive in causal order. Apply an operation only after everything that its author had seen, or send all of that together with it. If the editor itself holds operations "
           f"back, write the receipt of each only when it is applied. {GUIDE} shows what to record in each case.")
 OVERTAKEN = "Look at the order in which operations arrive: {name} was overtaken, as told above. " + CAUSAL
@@ -157,8 +165,8 @@ MOVED_OR_TIED = ("Look at how a position is adjusted where a change arrives: the
              "replica {replica} knew and the author of {element} did not{back}. Or look at the order of concurrent inserts: {first} and {then} were inserted without knowing of each "
              "other, and were shown in two different orders. Use a rule that gives the same order everywhere (such as the replicas' numbers). Client and server must adjust alike, and each change once.")
 EITHER = ("Look at the order of concurrent inserts: {first} and {then} were inserted at one place without knowing of each other, and were shown in two "
-          "different orders. Either the rule that orders them is not the same everywhere; or the position of {element} was not adjusted for {changes}, "
-          "which replica {replica} knew and the author of {element} did not{back}. Client and server must adjust alike, and each change once.")
+          "different orders. Either the position of {element} was not adjusted for {changes}, which replica {replica} knew and the author of {element} did not{back}; "
+          "or the rule that orders them is not the same everywhere. Client and server must adjust alike, and each change once.")
 REBASED = ("Replica {replica} inserted both {one} and {two} itself. If the editor takes back its own changes when others' arrive, and applies them anew (rebasing), look at "
            "where that puts them.")
 SEEN = ("When replica {author} inserted [{new}] ({later}, line {line}), it had [{old}] already{since}, and put [{new}] {side} it. That order must hold everywhere, but {operation} "
@@ -167,8 +175,8 @@ OF_AUTHOR_OR_PLACE = "Look at what that insert says, as replica {author} made it
 BETWEEN_THE_TWO = "Look at what replica {author} did between the two"
 SEEN_IN_CYCLE = ("When replica {author} inserted [{new}] ({later}, line {line}), it had [{old}] already{since}, and put [{new}] {side} it: look at whether that insert says so too, and by "
                  "its number.{numbers}")
-SHOWN_ALONE = ("Only replica {replica}, which inserted [{new}] ({insert}, line {line}), shows it {side} [{old}], and only until its next receipt (line {receipt}); from {own} on it shows it "
-               "{other_side} [{old}], as the others do. ")
+SHOWN_ALONE = ("Replica {replica}, which inserted [{new}] ({insert}, line {line}), shows it {side} [{old}] until its next receipt (line {receipt}), and no other replica does; from {own} "
+               "on it shows it {other_side} [{old}], as the others do. ")
 ANOTHER_PLACE = ("So the insert's change says another place than the one where the replica itself shows it: look at how a local insert is put into the list, and at what its change "
                  "carries.")
 MOVED_THEN = "Look first at what is done in line {receipt}: at how the replica's own changes that are still on their way are adjusted for what arrives, and at how it takes them back and applies them anew, if it does"
@@ -206,7 +214,9 @@ def otherwise(condition: str, look: str) -> str:
 def of_contents(evidence: Evidence) -> list:
     if evidence.undelivered:
         return [undelivered(evidence)]
-    found = [*misnamed(evidence), *own_back(evidence), *applied_twice(evidence), *in_part(evidence), *wrong_delete(evidence, evidence.operations[0]), *second_delete(evidence), *overtaken(evidence), *lost_neighbour(evidence)]
+    if misnamed(evidence):
+        return misnamed(evidence)
+    found = [*own_back(evidence), *applied_twice(evidence), *in_part(evidence), *wrong_delete(evidence, evidence.operations[0]), *second_delete(evidence), *overtaken(evidence), *lost_neighbour(evidence)]
     found += too_much(evidence) if not found else []
     more = unlike_receipts(evidence) if all(cause.name in ("lost neighbour", "applied in part") for cause in found) else []
     is_loss_first = is_loss_likelier(evidence, found or more)
@@ -222,7 +232,18 @@ def of_contents(evidence: Evidence) -> list:
     if unknown:
         found = [Cause("unknown", UNKNOWN.format(names=listed(unknown, MOST_TOLD))), *found]
     these = "If none of these is the cause" if found[1:] else "If that is not the cause"
-    return [*found, Cause("arrival", otherwise(these, ARRIVAL) if found else ARRIVAL)]
+    last = instead(evidence, any(cause.name == "overtaken" for cause in found))
+    return [*found, Cause("arrival", otherwise(these, last) if found else last)]
+
+
+def instead(evidence: Evidence, is_overtaken: bool) -> str:
+    """Where to look where nothing else is told, or that is not it: of a change of the replica's own that nothing came before, at that itself."""
+    operation = evidence.operations[0]
+    before, receipts = evidence.before(operation)
+    if before and before[0].kind != "view" and not receipts and operation.element and not any(evidence.otherwise) and not evidence.repeated and set(evidence.surplus) <= set(evidence.recording.inserts):
+        return LOCAL.format(before=at(before[0]), what="insert" if operation.kind == "ins" else "delete")
+    may_be_transport = evidence.unnamed and not is_overtaken
+    return ARRIVAL.format(things="three things" if may_be_transport else "two things", transport=TRANSPORT if may_be_transport else "")
 
 
 def applied_twice(evidence: Evidence) -> list:
@@ -308,9 +329,9 @@ def unlike_receipts(evidence: Evidence) -> list:
         return []
     replica = evidence.operations[0].replica
     other = OTHER_DELETE if len(left_out) == 1 and left_out[0].kind == "del" and was_deleted_before(evidence, left_out[0]) else ""
-    return [Cause(name, look.format(replica=replica, other=other, **changes_told(changes)))
+    return tied_first([Cause(name, look.format(replica=replica, other=other, **changes_told(changes)))
             for name, look, changes in (("not applied", NOT_APPLIED, left_out), ("no receipt", NO_RECEIPT, added)) if changes] + [
-                one for change in left_out[:1] if len(left_out) == 1 for one in moved_delete(evidence, change)]
+                one for change in left_out[:1] if len(left_out) == 1 for one in moved_delete(evidence, change)])
 
 
 def was_deleted_before(evidence: Evidence, delete: Operation) -> bool:
@@ -323,13 +344,37 @@ def was_deleted_before(evidence: Evidence, delete: Operation) -> bool:
 def moved_delete(evidence: Evidence, delete: Operation) -> list:
     """Over which changes a delete has to be moved that arrived for wrong contents; and, of its element, over which insert that one was."""
     receipt = evidence.recording.arrival(delete, evidence.operations[0].replica)
-    unknown = met(evidence.recording, delete, receipt) if delete.kind == "del" and receipt is not None else []
+    unknown = not_behind(evidence.recording, delete, receipt, met(evidence.recording, delete, receipt)) if delete.kind == "del" and receipt is not None else []
     if not unknown:
         return []
     others = [other.element for insert in evidence.recording.inserts.get(delete.element, [])[:1]
               for other in put_there_at_once(evidence.recording, insert, receipt)]
+    tied = [Cause("concurrent", TIED.format(one=delete.element, two=other, before=at(orders[0]), after=at(orders[1])))
+            for other in others[:MOST_TOLD] if all(orders := shown_in_orders(evidence, delete.element, other))]
+    others = [other for other in others if not tied and not is_agreed(evidence, delete.element, other, {delete.replica, receipt.replica})]
     back = MOVED_BEFORE.format(replica=receipt.replica) if met_before(evidence.recording, delete, receipt) else ""
-    return [Cause("positions", MOVED_DELETE.format(delete=delete.name, changes=named(unknown), back=back, tie=at_once(delete.element, others) if others else ""))]
+    return [*tied[:1], Cause("positions", MOVED_DELETE.format(delete=delete.name, changes=named(unknown), back=back, tie=at_once(delete.element, others) if others else ""))]
+
+
+def shown_in_orders(evidence: Evidence, one: str, two: str) -> tuple:
+    """The first responses that show two elements in the one order, and in the other; none where there is no such."""
+    found = {}
+    for operation in evidence.shown_up_to_last:
+        names = operation.response
+        if one in names and two in names:
+            found.setdefault(names.index(one) < names.index(two), operation)
+    return found.get(True), found.get(False)
+
+
+def is_agreed(evidence: Evidence, one: str, two: str, replicas: set) -> bool:
+    """Whether these replicas show two elements, and all that do in one order."""
+    shown = {operation.replica for operation in evidence.shown_up_to_last if one in operation.response and two in operation.response}
+    return replicas <= shown and not all(shown_in_orders(evidence, one, two))
+
+
+def tied_first(causes: list) -> list:
+    """First of all that two elements are shown in two orders already: what follows from it comes behind."""
+    return sorted(causes, key=lambda cause: cause.name != "concurrent")
 
 
 def changes_told(changes: list) -> dict:
@@ -355,18 +400,28 @@ def wrong_delete(evidence: Evidence, operation: Operation) -> list:
     if is_deleted or not news or is_new or not any(map(operation.has_seen, inserts)):
         return []
     look = WRONG_LOCAL_DELETE if news[0] is operation else WRONG_POSITION if evidence.kind == POSITIONS else WRONG_DELETE
-    return [Cause("wrong delete", look.format(delete=at(news[0]), replica=operation.replica, missing=missing, surplus=surplus)), *moved_delete(evidence, news[0])]
+    return tied_first([Cause("wrong delete", look.format(delete=at(news[0]), replica=operation.replica, missing=missing, surplus=surplus)), *moved_delete(evidence, news[0])])
 
 
 def misnamed(evidence: Evidence) -> list:
-    """Of a delete whose element its replica did not show before, and nothing has come since; instead something else is missing."""
+    """Of a delete after which other elements are gone than it names, or than the deletes that its replica made directly before it, and nothing has
+    come since: it names what stood there nowhere, or several deletes name what is still shown."""
     operation = evidence.operations[0]
     before, receipts = evidence.before(operation)
-    if operation.kind != "del" or not before or before[0].kind == "view" or receipts or operation.element in before[0].response or not evidence.missing or evidence.repeated:
+    if operation.kind != "del" or not before or before[0].kind == "view" or receipts or not evidence.missing or evidence.repeated:
         return []
-    unknown = "" if operation.element in evidence.recording.inserts else ", and no line inserts"
-    return [Cause("misnamed", MISNAMED.format(delete=at(operation), replica=operation.replica, element=operation.element, before=at(before[0]), unknown=unknown,
-                                              missing=listed(evidence.missing, MOST_TOLD)))]
+    others = evidence.made_before(operation)[::-1]
+    deletes = [*others, operation]
+    named = [delete.element for delete in deletes]
+    wrong = [NOT_SHOWN.format(element=operation.element, before=at(before[0]), unknown="" if operation.element in evidence.recording.inserts else " and no line inserts it")
+             ] if operation.element not in before[0].response else []
+    if not wrong and not (others and evidence.surplus and set(evidence.surplus) <= set(named)):
+        return []
+    shown = [f"{listed(evidence.surplus, MOST_TOLD)} {'are' if evidence.surplus[1:] else 'is'} still shown"] if evidence.surplus and not wrong else []
+    gone = f"{listed(evidence.missing, MOST_TOLD)} {'are' if evidence.missing[1:] else 'is'} gone"
+    told = deletes if shown else [operation]
+    return [Cause("misnamed", MISNAMED.format(deletes=listed(list(map(at, told)), MOST_TOLD), s="" if told[1:] else "s", named=listed([delete.element for delete in told], MOST_TOLD),
+                                              wrong=(wrong or shown)[0], missing=gone, several=SEVERAL_IDS if others else ""))]
 
 
 def too_much(evidence: Evidence) -> list:
@@ -441,9 +496,9 @@ def replaced(evidence: Evidence) -> list:
 def second_delete(evidence: Evidence) -> list:
     found = evidence.second_deletes[:1]
     replica = evidence.operations[0].replica
-    return [Cause("second delete", SECOND_DELETE.format(again=at(again), element=again.element, first=at(first), missing=listed(evidence.lost, MOST_TOLD),
-                                                        found=FOUND[evidence.kind == POSITIONS], applied="" if again.replica == replica else f", applied at replica {replica},"))
-            for again, first in found] + [one for again, _ in found for one in moved_delete(evidence, again)]
+    return [Cause("second delete", SECOND_DELETE[evidence.kind == POSITIONS].format(again=at(again), element=again.element, first=at(first),
+                                                        missing=listed(evidence.lost, MOST_TOLD), applied="" if again.replica == replica else f", applied at replica {replica},"))
+            for again, first in found] + [one for again, _ in found for one in moved_delete(evidence, again) if one.name == "positions"]
 
 
 def overtaken(evidence: Evidence) -> list:
@@ -669,6 +724,9 @@ def settled_by_another(evidence: Evidence, first: Operation, then: Operation) ->
     """Of two inserts of which the one was put before an element, and the other behind it, which so settles their order. The nearest one counts."""
     found = []
     for one, other in (first, then), (then, first):
+        unlike = shown_unlike(evidence, one)
+        if unlike is not None:
+            return [Cause("seen", seen(evidence, one, unlike, True))]
         before, behind = one.response[one.response.index(one.element) + 1:], other.response[:other.response.index(other.element)]
         found += [(before.index(name) + len(behind) - behind.index(name), name, one, other) for name in set(before).intersection(behind)
                   if is_deleted(evidence, name)]
@@ -682,6 +740,18 @@ def printed(evidence: Evidence) -> str:
     """What to print at the replicas of the two responses, where the kind of the editor is known; of one replica this tells nothing."""
     one, other = (operation.replica for operation in evidence.operations)
     return PRINT[evidence.kind].format(one=min(one, other), other=max(one, other)) if one != other else ""
+
+
+def shown_unlike(evidence: Evidence, insert: Operation) -> Operation | None:
+    """The insert of an element that one of the responses shows on another side of this one than the author of this one, who had both; the nearest."""
+    own = insert.response
+    place = own.index(insert.element)
+    for name in sorted(own, key=lambda name: abs(own.index(name) - place))[1:]:
+        for operation in evidence.operations:
+            shown = operation.response
+            if name in shown and insert.element in shown and (shown.index(name) < shown.index(insert.element)) != (own.index(name) < place):
+                return evidence.recording.inserts[name][0]
+    return None
 
 
 def here(evidence: Evidence) -> str:
@@ -745,7 +815,7 @@ def put_at_once(evidence: Evidence) -> str:
 def put_meanwhile(evidence: Evidence, insert: Operation) -> str:
     """Which inserts that were there when this one arrived had been made at its place, neither author knowing of the other's."""
     found = {other.element: None for arrival in evidence.arrivals if arrival.insert is insert
-             for other in put_there_at_once(evidence.recording, insert, arrival.receipt)}
+             for other in put_there_at_once(evidence.recording, insert, arrival.receipt) if not is_agreed(evidence, insert.element, other.element, {insert.replica, arrival.receipt.replica})}
     return at_once(insert.element, list(found)) if found else ""
 
 

@@ -176,6 +176,11 @@ class Evidence:
                       and before.n not in received and after.response != before.response]
         return min(found, key=lambda pair: pair[1].line, default=None)
 
+    @cached_property
+    def shown_up_to_last(self) -> list:
+        """The operations up to the last line that the verdict is on."""
+        return [entry for entry in self.recording.entries if isinstance(entry, Operation) and entry.line <= self.last_line]
+
     def came_between(self, before: Operation, after: Operation) -> list:
         """The changes of others that came to a replica between two operations of it."""
         return [change for change in self.recording.changes() if change.replica != after.replica and after.has_seen(change) and not before.has_seen(change)]

@@ -18,6 +18,15 @@ def met(recording: Recording, change: Operation, receipt: Receipt) -> list:
     return [other for other in unknown if other.element in before] or unknown
 
 
+def not_behind(recording: Recording, delete: Operation, receipt: Receipt, changes: list) -> list:
+    """Those of the changes whose elements are not known to stand behind the delete's, at its author or at the replica, since these move nothing
+    before them; but of two that were inserted at one place, which stands behind is in question."""
+    behind, inserts = set(), recording.inserts.get(delete.element, [])[:1]
+    for names in list_of(recording, delete), recording.shown_before(receipt):
+        behind.update(names[names.index(delete.element) + 1:] if delete.element in names else ())
+    return [change for change in changes if change.element not in behind or change.kind == "ins" and any(are_put_at_once(insert, change) for insert in inserts)]
+
+
 def met_inserts(recording: Recording, delete: Operation, arrival: Arrival) -> list:
     """The inserts but the arriving one that its receipt's replica had before it, where these and the delete did not know of each other."""
     had = recording.clock_before(arrival.receipt)

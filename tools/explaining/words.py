@@ -9,6 +9,7 @@ from typing import NamedTuple
 from . import debuggers
 from .causes import ALONE, Cause, astray, causes_of, otherwise
 from .evidence import MOST_ARRIVED, Evidence
+from .kinds import POSITIONS
 from .programs import WEAK_ALONE, is_weak_alone
 from .recordings import Operation, Receipt, Recording, place_asked
 from .telling import FIRST_STEPS, at, counted, did, joined, listed
@@ -40,13 +41,14 @@ def explanation(evidence: Evidence, told: Evidence, language: str = debuggers.US
     headline, sections = tell[told.report["verdict"]](told)
     causes = causes_of(told, weak)
     alone = [cause for cause in causes if cause.name == ALONE and not weak and is_weak_alone(evidence.report)]
-    in_order = [*(cause for cause in causes if cause.name != ALONE), *of_whole(evidence, told), *alone]
+    others = [*(cause for cause in causes if cause.name != ALONE), *of_whole(evidence, told)]
+    in_order = [*alone, *others] if evidence.kind == POSITIONS else [*others, *alone]
     where = [Section(WHERE, [cause.told for cause in in_order])] if causes else []
     whole = whole_trace(evidence, told)
     is_alike = verdict_of(evidence.report) == verdict_of(told.report)  # then more responses would tell nothing new
     if whole:
-        others = " too, by other responses" if is_alike else " (told below)"
-        headline += f" This is what went wrong first, within the first {told.last_line} lines. The verdict on the whole trace is {verdict_of(evidence.report)}{others}."
+        more = " too, by other responses" if is_alike else ", told at the end"
+        headline += f" This is what went wrong first, within the first {told.last_line} lines: begin with it. The verdict on the whole trace is {verdict_of(evidence.report)}{more}."
     if weak and is_weak_alone(evidence.report):
         headline = f"{WEAK_ALONE}: this passes, since only the weak list specification is asked for. Why the strong one fails: {headline}"
     return Explanation(headline, [*when_it_went_wrong(evidence, told, weak), *without_receipts(told), *sections, *where,
@@ -59,7 +61,7 @@ def of_whole(evidence: Evidence, told: Evidence) -> list:
     contradiction shows more."""
     if not evidence.report.get("k") == 2 < told.report.get("k", 0):
         return []
-    return [Cause(cause.name, otherwise("For the verdict on the whole trace (told below)", cause.told)) for cause in causes_of(evidence)
+    return [Cause(cause.name, otherwise("For the verdict on the whole trace (told at the end)", cause.told)) for cause in causes_of(evidence)
             if cause.name != "beside deleted"]  # which speaks of lines above
 
 
@@ -96,7 +98,7 @@ def when_it_went_wrong(evidence: Evidence, told: Evidence, weak: bool) -> list:
     if told.report["verdict"] == "refused":
         still = "agrees with all responses up to then" if weak and not is_alone else "fits"
         is_refused = evidence.report["verdict"] == "refused"  # else what is shown in the end is wrong by itself
-        lines += [since(told, entry, still), *(in_the_end(evidence.recording) if is_refused and not told.unreceived else [])]
+        lines += [since(told, entry, still), *(in_the_end(evidence.recording, told.elements) if is_refused and not told.unreceived else [])]
     else:
         lines.append(f"the first {last} lines are enough to show it (`head -{last}`)")
     went = "When it showed" if told.report["verdict"] == "refused" else "When it went wrong"  # which of two responses is wrong, nothing says
@@ -114,7 +116,7 @@ def whole_trace(evidence: Evidence, told: Evidence) -> list:
     wrong = f": {what_is_wrong(evidence, evidence.operations[0])}" if evidence.report["verdict"] == "contents" else ""
     lines = [f"{did(operation)}, answered {answer(evidence, operation)}{wrong}" for operation in evidence.operations]
     if evidence.missing:
-        lines.append(f"it lacks {listed(evidence.missing, MOST_ARRIVED)}")
+        lines.append(f"it lacks {listed(evidence.missing, MOST_ARRIVED)}" + (f", and has {listed(evidence.surplus, MOST_ARRIVED)}" if evidence.surplus else ""))
     return [Section("What the verdict on the whole trace is about", lines + [cause.told for cause in causes_of(evidence)[:1] if evidence.report["verdict"] == "doubled"])]
 
 
@@ -191,8 +193,9 @@ def elements(evidence: Evidence) -> list:
     return [*lines, *gone_before(evidence), *beside_deleted(evidence), *beside_hidden(evidence), *where_arrived(evidence)]
 
 
-def in_the_end(recording: Recording) -> list:
-    """Whether the replicas that have all operations show one list at their end, if there are several."""
+def in_the_end(recording: Recording, elements: list) -> list:
+    """Whether the replicas that have all operations show one list at their end, if there are several; but not where that lacks some of the elements
+    which the verdict is about, and so says nothing of their order."""
     changes = [change for kind in (recording.inserts, recording.deletes) for made in kind.values() for change in made]
     last = [stream[-1] for stream in recording.streams if stream and stream[-1].kind != "view"]
     whole = [operation for operation in last if all(map(operation.has_seen, changes))]
@@ -200,6 +203,8 @@ def in_the_end(recording: Recording) -> list:
         return []
     told = joined([str(operation.replica) for operation in whole])
     lists, sets = ({kind(operation.response) for operation in whole} for kind in (tuple, frozenset))
+    if len(lists) == 1 and not set(elements) <= next(iter(sets)):
+        return []
     shown = "the same list" if len(lists) == 1 else "the same elements in different orders" if len(sets) == 1 else "different lists"
     return [f"in the end replicas {told} have every change, as the receipts say, and show {shown}"]
 
