@@ -1252,6 +1252,7 @@ int main(void) {{
         printf("%u\\n", (unsigned)domepeeler_read(recording, 0, NULL, 0));
         fflush(stdout);
     }}
+    if (!domepeeler_text(recording)) return 1; /* so that nothing is said when it is freed */
     domepeeler_free(recording);
 }}
 ''', "here", ["gcc", "-o", "stopping_c", "stopping.c"], ["./stopping_c"]),
