@@ -105,8 +105,8 @@ export function recorded(replicas, body, { folder = FOLDER, weak = false, stop =
   })
 }
 
-/** A promise that is kept where the recording is accepted, or with `weak` where weak holds; else it is saved, and the error says what is
- * wrong with it. Of the first one by this path that may hide something Node warns. */
+/** A promise that is kept where the recording is accepted, or with `weak` where weak holds, and lacks nothing that a refused call says; else it is
+ * saved, and the error says what is wrong with it. Of the first one by this path that may hide something Node warns. */
 export async function accepted(recording, path, { weak = false } = {}) {
   const { told, warnings } = await judged(recording, path, weak)
   if (told) throw new NotAccepted(told)
