@@ -35,13 +35,14 @@ const NEVER_CAME = "a call was refused, and what it says never came: " // so the
 const FIRST_LINES = 2 // of each trace: its version, and how many replicas there are
 const NEVER_CALLED = "recorded() makes a function for test(), and this one was never called, so nothing was recorded: write " +
   "test(name, recorded(2, (recording) => ...)), without `() =>` before it"
+const UNCALLED = "what recorded() made here was never called, so it recorded nothing: was its test skipped, or is it not handed to test()?"
 const uncalled = new Map() // by function that recorded() made within a test, and that was never called: the test, and an error with the line
 const named = new Map() // by name of a file: how many tests of this process have had it
 const warned = new Set() // paths of properties of which a recording has hidden something
 const watched = new Map() // by recording: its test, and its state when it was judged, if it was
 
 process.on("exit", () => {
-  for (const { test, neverCalled } of uncalled.values()) console.error(`${test}: ${neverCalled.stack.replace(/^Error: /, "")}`)
+  for (const { test, neverCalled } of uncalled.values()) console.error(`${test}: ${UNCALLED}\n${neverCalled.stack.replace(/^.*\n/, "")}`)
   for (const [recording, { test, state }] of watched) {
     if (isSame(stateOf(recording), state)) continue
     const why = !state ? "the process ended within the test, so what it recorded was not judged" : recording.lines() === state.lines ?
