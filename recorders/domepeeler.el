@@ -552,23 +552,32 @@ fails by itself, the trace is saved as FILE, its verdict is told, accepted
 or not, and the error goes on.  Else it is an error that the recording is
 not accepted, or may hide something: that is explained, and the trace is
 saved.  Where all is right, what was saved as FILE before is removed.
-With `domepeeler-weak' a recording passes where weak holds."
+What a test of ERT records before it is skipped is judged too, but may
+end unequal.  With `domepeeler-weak' a recording passes where weak holds."
   (declare (indent 2) (debug ((symbolp &rest form) form body)))
   `(let ((,(car binding) (domepeeler-new ,@(cdr binding))))
      (domepeeler--tested ,(car binding) ,file (lambda () ,@body))))
 
 (defun domepeeler--tested (recording file body)
   "Call BODY, and end as `domepeeler-with-recording' says."
-  (condition-case why
-      (funcall body)
-    (ert-test-skipped (signal (car why) (cdr why)))
-    (error
-     (message "%s" (domepeeler--told recording file))
-     (signal (car why) (cdr why))))
+  (let ((skip (condition-case why
+                  (progn (funcall body) nil)
+                (ert-test-skipped why)
+                (error
+                 (message "%s" (domepeeler--told recording file))
+                 (signal (car why) (cdr why))))))
+    (unless (and skip (= (domepeeler-lines recording) domepeeler--head) (null (domepeeler--refusals recording)))
+      (domepeeler--judged recording file (and skip t)))
+    (when skip (signal (car skip) (cdr skip)))))
+
+(defun domepeeler--judged (recording file is-skipped)
+  "Judge RECORDING as `domepeeler-with-recording' says, which names FILE.
+If IS-SKIPPED, the session ends in its midst, so of what an accepted
+recording may hide only calls that were refused count."
   (let ((report (domepeeler-judge recording nil domepeeler-weak)))
     (if (and (if domepeeler-weak (eq (alist-get 'weak report) t) (equal (alist-get 'verdict report) "accepted"))
-             (null (alist-get 'warnings report)))
-        (progn
+             (null (if is-skipped (domepeeler--refusals recording) (alist-get 'warnings report))))
+        (unless is-skipped
           (unless (equal (alist-get 'verdict report) "accepted")
             (message "%s" "weak holds, strong doesn't")) ; Emacs would show another quotation mark
           (dolist (saved (list file (concat file ".lines")))

@@ -16,6 +16,6 @@ export function recorded(
   options?: { folder?: string } & Stop,
 ): ((context: TestContext) => Promise<void>) & PromiseLike<never>
 
-/** A promise that is kept where the recording is accepted, or with `weak` where weak holds; else it is saved, and the error says what is
- * wrong with it. */
+/** A promise that is kept where the recording is accepted, or with `weak` where weak holds, and lacks nothing that a refused call says; else it is
+ * saved, and the error says what is wrong with it. */
 export function accepted(recording: Recording, path: string, options?: Goal): Promise<void>

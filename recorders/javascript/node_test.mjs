@@ -16,12 +16,14 @@
 // then. For a property of fast-check or another library, let the property end with:
 //     await accepted(recording, "failed.trace") // which judges what is recorded by then
 //
-// It is handed to test() itself: a test that answers it, as by `() => recorded(2, ...)`, would run nothing, and fails.
+// It is handed to test() itself: a test that answers it, as by `() => recorded(2, ...)`, would run nothing, and fails. One that makes it and
+// does not answer it, as by `() => { recorded(2, ...) }`, is told of on standard error when the process ends.
 //
 // With { stop: true } as a last argument of recorded() the test fails in the call that answered wrong, and its error's stack begins there.
 //
 // An editor with a server that orders changes promises the weak list specification alone. With { weak: true } as a last argument of
 // both, a recording is taken for accepted where weak holds; `contents`, `position`, `doubled` and `refused 2` still fail.
+import { executionAsyncResource } from "node:async_hooks"
 import { createHash } from "node:crypto"
 import { mkdir, rm, stat, writeFile } from "node:fs/promises"
 import { basename, dirname, join, relative, resolve } from "node:path"
@@ -33,11 +35,14 @@ const NEVER_CAME = "a call was refused, and what it says never came: " // so the
 const FIRST_LINES = 2 // of each trace: its version, and how many replicas there are
 const NEVER_CALLED = "recorded() makes a function for test(), and this one was never called, so nothing was recorded: write " +
   "test(name, recorded(2, (recording) => ...)), without `() =>` before it"
+const UNCALLED = "what recorded() made here was never called, so it recorded nothing: was its test skipped, or is it not handed to test()?"
+const uncalled = new Map() // by function that recorded() made within a test, and that was never called: the test, and an error with the line
 const named = new Map() // by name of a file: how many tests of this process have had it
 const warned = new Set() // paths of properties of which a recording has hidden something
 const watched = new Map() // by recording: its test, and its state when it was judged, if it was
 
 process.on("exit", () => {
+  for (const { test, neverCalled } of uncalled.values()) console.error(`${test}: ${UNCALLED}\n${neverCalled.stack.replace(/^.*\n/, "")}`)
   for (const [recording, { test, state }] of watched) {
     if (isSame(stateOf(recording), state)) continue
     const why = !state ? "the process ended within the test, so what it recorded was not judged" : recording.lines() === state.lines ?
@@ -62,6 +67,7 @@ export class NotAccepted extends Stopped {
  * called it. */
 export function recorded(replicas, body, { folder = FOLDER, weak = false, stop = false } = {}) {
   const run = async (context) => {
+    uncalled.delete(run)
     const recording = new Recording(replicas, null, { stop, weak: stop && weak })
     const test = context.fullName ?? context.name // with the suites' names where Node tells them
     watched.set(recording, { test })
@@ -90,11 +96,18 @@ export function recorded(replicas, body, { folder = FOLDER, weak = false, stop =
     context.after?.(() => isJudged(watched.get(recording)?.state) || judge(true)) // the last of the hooks
   }
   const neverCalled = new Error(NEVER_CALLED) // its stack has the line that made it
-  return Object.assign(run, { then: (kept, broken) => Promise.reject(neverCalled).then(kept, broken) })
+  const within = executionAsyncResource() // of Node's own, while the body of a test runs up to where it first waits
+  if (within?.constructor?.name === "Test") uncalled.set(run, { test: within.name, neverCalled })
+  return Object.assign(run, {
+    then(kept, broken) {
+      uncalled.delete(run) // the test fails by this
+      return Promise.reject(neverCalled).then(kept, broken)
+    },
+  })
 }
 
-/** A promise that is kept where the recording is accepted, or with `weak` where weak holds; else it is saved, and the error says what is
- * wrong with it. Of the first one by this path that may hide something Node warns. */
+/** A promise that is kept where the recording is accepted, or with `weak` where weak holds, and lacks nothing that a refused call says; else it is
+ * saved, and the error says what is wrong with it. Of the first one by this path that may hide something Node warns. */
 export async function accepted(recording, path, { weak = false } = {}) {
   const { told, warnings } = await judged(recording, path, weak)
   if (told) throw new NotAccepted(told)

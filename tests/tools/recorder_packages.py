@@ -450,6 +450,8 @@ test("awaits", async () => { await recorded(1, body) })
 test("within", async (context) => {
   await context.test("inner", recorded(1, (recording) => { recording.insert(0, "a", 0, ["a"]) }))
 })
+test("block", () => { recorded(1, body) }) // answers nothing
+test("skipped", { skip: true }, recorded(1, body))
 """
 
 # A thread that begins to record when its test has ended, and still does when pytest ends; it records what is right.
@@ -1654,6 +1656,9 @@ def check_ends_of_node(tally: Tally, place: Place) -> None:
     tally.check("node --test: what recorded() makes and nobody calls fails the test", done.returncode == 1 and "not ok 1 - arrow\n" in done.stdout and
                 "not ok 2 - awaits\n" in done.stdout and "ok 3 - within\n" in done.stdout and "    ok 1 - inner\n" in done.stdout and
                 done.stdout.count("this one was never called, so nothing was recorded") >= 2 and f"never.test.mjs:{line}:" in done.stdout, done.stdout)
+    told = done.stdout.partition("# block: what recorded() made here was never called, so it recorded nothing")[2]
+    tally.check("node --test: what recorded() makes and nobody answers is told of", f"never.test.mjs:{line_with(NEVER_CALLED, '// answers nothing')}:" in told and
+                not any(f"# {name}: what recorded() made" in done.stdout for name in ("arrow", "awaits", "within", "inner", "skipped")), done.stdout)
     done = place.run(words_refused, "packed", TIMER="1")
     tally.check("node --test: a call that is refused later still is told of", done.returncode == 1 and "ok 2 - timer" in done.stdout and
                 "timer: a call was refused when the test had ended, so what it says was not judged" in done.stdout, done.stdout)

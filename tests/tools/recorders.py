@@ -1252,6 +1252,7 @@ int main(void) {{
         printf("%u\\n", (unsigned)domepeeler_read(recording, 0, NULL, 0));
         fflush(stdout);
     }}
+    if (!domepeeler_text(recording)) return 1; /* so that nothing is said when it is freed */
     domepeeler_free(recording);
 }}
 ''', "here", ["gcc", "-o", "stopping_c", "stopping.c"], ["./stopping_c"]),
@@ -3521,6 +3522,36 @@ WEAK_EL = """(load "{recorder}" nil t)
 """
 
 
+# Tests of ERT that are skipped: before anything is recorded, behind what is right, what is wrong, and a call that is refused.
+SKIPPED_EL = f"""(require 'ert)
+(load "{ROOT / 'recorders'}/domepeeler.el" nil t)
+(defmacro skips (name &rest body)
+  `(ert-deftest ,name ()
+     (domepeeler-with-recording (recording 2) "skipped.trace" ,@body (skip-unless nil))))
+(skips nothing)
+(skips right (domepeeler-insert recording 0 "a" 0 '("a")))
+(skips wrong (domepeeler-insert recording 0 "a" 0 nil))
+(skips refused
+  (domepeeler-insert recording 0 "a" 0 '("a"))
+  (should-error (domepeeler-read recording 7 nil)))
+"""
+
+
+def check_skipped_el(tally: Tally, program: str, folder: Path) -> None:
+    """What a test of ERT records before it is skipped is judged: where it is right the test is skipped, though its ends are unequal, and else it
+    fails, with the words and the trace."""
+    place = folder / "skipped"
+    place.mkdir()
+    (place / "skipped.el").write_text(SKIPPED_EL)
+    done = subprocess.run(["emacs", "-Q", "--batch", "-l", "skipped.el", "-f", "ert-run-tests-batch-and-exit"], cwd=place, capture_output=True, text=True,
+                          env={**os.environ, "DOMEPEELER": program, "DOMEPEELER_EXPLAIN": EXPLAIN, "LC_ALL": "C.UTF-8"})
+    results = {name: result for result, name in re.findall(r"^ +(passed|FAILED|skipped) +[0-9/]+ +(\w+)", done.stderr, re.MULTILINE)}
+    tally.check("el: tests that are skipped are judged", done.returncode == 1 and results == {
+        "nothing": "skipped", "right": "skipped", "wrong": "FAILED", "refused": "FAILED"}, (results, done))
+    tally.check("el: and explained and saved", "contents 0.1: " in done.stderr and "a call was refused, so what it says is not recorded: no replica 7" in done.stderr and
+                done.stderr.count("The trace is saved: skipped.trace") >= 2 and (place / "skipped.trace").is_file(), done)
+
+
 def check_aborts(tally: Tally, program: str, folder: Path) -> None:
     """A test in C that ends by `abort`, and one in Emacs Lisp that fails by an error of its own, have their trace saved and its verdict told,
     accepted or not. In Emacs Lisp the macro judges too, and removes what an earlier run has saved. A recording that is freed is let alone."""
@@ -3755,6 +3786,7 @@ def main() -> None:
         check_stop_cpp(tally, program, folder)
         check_shared_recordings(tally, program, folder)
         check_aborts(tally, program, folder)
+        check_skipped_el(tally, program, folder)
         check_hostile_c(tally, Recorder("c", drivers["c"], program), folder)
         check_ignored_c(tally, program, folder)
         check_not_learned_c(tally, program, folder)

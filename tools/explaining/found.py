@@ -57,9 +57,11 @@ def found_in(folder: str, been: set) -> Found:
             found.traces.append(path[:-len(SIDE)])
         elif UNFINISHED.fullmatch(name):
             note(found, path, *unfinished(path))
+        elif name.lower().endswith(SIDE) or COMPRESSED.fullmatch(name):
+            continue  # what is wrong with it is told of its trace
         elif os.path.islink(path) and not os.path.exists(path):
             note(found, path, "." not in name, NOWHERE if "." not in name else NOWHERE_PASSED)
-        elif (like := LOOKS_LIKE.fullmatch(name)) and not name.lower().endswith(SIDE) and not COMPRESSED.fullmatch(name):
+        elif like := LOOKS_LIKE.fullmatch(name):
             note(found, path, *looking_like(path, str(Path(folder, like[1])), like["more"]))
     return found
 

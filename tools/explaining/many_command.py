@@ -27,7 +27,8 @@ from .warnings import SAVED, is_first
 NAME = "domepeeler-judge-many"
 ABOUT = "Judges all traces below some folders, several at a time, and lists them: first the one that fails in the fewest lines."
 STATUSES = ("It ends with status 0 where all are accepted, 1 where all can be read and some are not accepted, and 2 where one can't "
-            "be read or is known to be cut (whatever its lines show), or would pass though a call that was to record it was refused, or none has "
+            "be read or is known to be cut (whatever its lines show), or would pass though a call that was to record it was refused, or may be lacking (what a stopped "
+            "recorder left, a link that leads nowhere, a trace with another ending), or none has "
             "an entry, or something else fails. With --weak, traces where weak "
             "holds pass too.")
 MOST_WARNED = 20  # warnings that are printed on standard error
