@@ -103,6 +103,17 @@ WORDS = [
      "Between the two it inserted c. Look at what decides which of b and a comes first: once both are inserted, it must never change, "
      "whatever is inserted, deleted or received later.|If that is not the cause: look at how the position that a user sees is mapped to a place in the editor's "
      "own list; and at whether the recorder writes the position that was asked for." + stop(5, "replica 0 inserts c", together=3)),
+    ("deletes of several whose names are counted on from the first", 2, "0 ins x1 0 : x1|1 recv 0 1|1 ins y1 1 : x1 y1|1 ins z1 2 : x1 y1 z1|0 ins x2 1 : x1 x2|1 recv 0 2|1 read : x1 y1 z1 x2|"
+     "1 del x1 : y1 z1 x2|1 del x2 : z1 x2",
+     "Where to look|1.4 (line 10) and 1.5 (line 11) delete x1 and x2; but x2 is still shown, while y1 is gone. Look at which ids a local delete puts into the change that it sends: of "
+     "several elements each has its own, which need not follow from the one before." + stop(11, "replica 1 deletes x2", together=10)),
+    ("an insert that takes another element away", 1, "0 ins a 0 : a|0 ins b 1 : a b|0 ins c 1 : a c",
+     "Where to look|Nothing came between 0.2 (line 4) and this, so look at the local insert itself: what it takes from the list or puts there, and which ids it puts into the change that "
+     "it sends." + stop(5, "replica 0 inserts c")),
+    ("a delete where the order of two at its place differs already", 2, "0 ins a 0 : a|0 ins w 1 : a w|1 ins c 0 : c|1 recv 0 1|1 read : a c|1 del c : a|0 recv 1 1|0 recv 1 3|0 read : c a",
+     "Where to look|c and a were inserted at one place without knowing of each other, and are shown in two orders already: c before a in 0.3 (line 11), a before c in 1.2 (line 7). Look "
+     "first at the order of concurrent inserts: by another order a later position hits another element.|It looks as if 1.3 (line 8), applied at replica 0, deleted w instead of c: look at "
+     "how a replica that applies a delete finds the element, and at whether the recorder writes the name of the element that was deleted." + stop(9, "replica 0 applies 1.1")),
     ("an insert beside a deleted element, where others before it went well", 2, "0 ins a 0 : a|0 ins b 1 : a b|0 ins c 2 : a b c|0 ins z 3 : a b c z|1 recv 0 4|1 read : a b c z|"
      "1 del a : b c z|0 ins p 1 : a p b c z|1 recv 0 5|1 read : p b c z|1 del b : p c z|0 ins q 3 : a p b q c z|1 recv 0 6|1 read : p q c z|1 del c : p q z|"
      "0 ins r 5 : a p b q c r z|1 recv 0 7|1 read : p q r z|1 del r : p q z|0 ins s 6 : a p b q c r s z|1 recv 0 8|1 read : p q z s",
@@ -1655,6 +1666,11 @@ def kinds(tally: Tally, program: str, folder: str) -> None:
         told = explain(program, ["--editor", kind, str(path)]).out.decode()
         tally.check(f"kinds: {kind}: what its author alone shows", (f"Look first at what is done in line 12: at how {own}" in told) == (kind == "positions")
                     and f"\n  stop before line {line} of the trace" in told and ("at what its change carries." in told) == (kind == "neighbours"), told)
+    path.write_text(text_of(2, "0 ins a 0 : a|0 ins b 1 : a b|1 recv 0 2|1 del a : b|0 recv 1 1|0 del a :"))
+    nothing = "It looks as if 0.3 (line 8) deleted b. Its own element, a, was already deleted there, by 1.1 (line 6): such a delete must change nothing."
+    for kind in "neighbours", "positions":
+        told = explain(program, ["--editor", kind, str(path)]).out.decode()
+        tally.check(f"kinds: {kind}: a second delete", (nothing in told) == (kind == "positions") and ("deleted b instead of a" in told) == (kind == "neighbours"), told)
     path.write_text(text_of(1, "0 ins a 0 : a"))
     tally.check("kinds: nothing of an accepted trace", hint not in explain(program, [str(path)]).out)
 
