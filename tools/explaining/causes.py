@@ -131,7 +131,7 @@ NO_NEXT = "The lines above say which elements each response no longer has."
 SEVERAL_APART = ("Look at how a replica orders elements when it has only some of them: any {fewer} of {named} fit together, all {k} don't. An "
                  "element that one of these responses lacks was not deleted there; it had not arrived yet. Often the rule that orders concurrent "
                  "inserts is not the same everywhere.")
-WEAK_ALONE_HOLDS = ("An editor whose server orders all changes, as Jupiter's does, promises only the weak list specification, which holds {here}. If yours is "
+WEAK_ALONE_HOLDS = ("An editor whose server orders all changes, as Jupiter's does, promises only the weak list specification, which holds here. If yours is "
                     "such a one, nothing is wrong here: ask for weak alone, in the tools by --weak.")
 SETTLED = ("Look at where a replica places an incoming insert beside a deleted element: [{first}] was put before [{middle}] ({op_first}), and [{then}] behind it ({op_then}), so "
               "[{middle}] settles their order, also where it is deleted; yet they were shown in two different orders. {then_what}")
@@ -625,7 +625,7 @@ def of_refusal(evidence: Evidence, weak: bool) -> list:
     if evidence.report["k"] > 2:
         several = [of_several(evidence), *seen_in_cycle(evidence)]
         return [*lost(evidence), *came_between(evidence), *(several[::-1] if evidence.is_fine_beside_deleted else several), sorted_alike(evidence),
-                Cause(ALONE, WEAK_ALONE_HOLDS.format(here=here(evidence)))]
+                Cause(ALONE, WEAK_ALONE_HOLDS)]
     first, then = (evidence.recording.inserts[name][0] for name in evidence.elements)
     weak = weak or evidence.kind == POSITIONS
     if not first.has_seen(then) and not then.has_seen(first):
@@ -752,11 +752,6 @@ def shown_unlike(evidence: Evidence, insert: Operation) -> Operation | None:
             if name in shown and insert.element in shown and (shown.index(name) < shown.index(insert.element)) != (own.index(name) < place):
                 return evidence.recording.inserts[name][0]
     return None
-
-
-def here(evidence: Evidence) -> str:
-    """Of what weak holds: of all that is explained."""
-    return "here" if evidence.last_line == len(evidence.recording.lines) else f"in these first {evidence.last_line} lines"
 
 
 def place_of_both(first: Operation, then: Operation) -> str:
