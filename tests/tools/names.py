@@ -93,7 +93,7 @@ WORDS = {
     "session of one thread": ("the replies that a list of calls has", "events", "reply after"),
     "turn": ("who has it may change the recording", "sessions", "Free Busy"),
     "registry": ("at most 64 sessions by name", "sessions", "Registry Registered"),
-    "commands": ("`verdict`, `cert`, `verify`; `live` is of `finder_cli`", "engines", "run run_cert run_verify"),
+    "commands": ("`verdict`, `cert`, `verify`; `live` is of `live_engine`", "engines", "run run_cert run_verify"),
     "options": ("`--workers`, `--json`, `--version`, `--help`", "command_line",
                 "read_words workers_rule json_rule WORKERS MOST_WORKERS finder_app WordsFault"),
     "limit of reads": ("268,435,456 of a stream", "byte_streams", "READS IsClosed"),

@@ -4,7 +4,7 @@
 //! - They say by [`Status`] what they found, or by [`RunFault`] why they wrote no output, or not the whole of
 //!   it.
 //! - [`recording_from`], [`verdict_on`], [`status_of`], [`Output`] and [`write_output`] are parts that the
-//!   engine `live` has too. That stands in `finder_cli`, so this crate needs no sessions.
+//!   engine `live` has too. That stands in `live_engine`, so this crate needs no sessions.
 #![tactic(auto)]
 
 mod answer_line;

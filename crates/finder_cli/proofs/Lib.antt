@@ -1,2 +1,1 @@
 pub mod Done
-pub mod Sessions

@@ -2,8 +2,6 @@
 use Rattle.std.specs.Prelude.{ℕ, List}
 use Rattle.engines.specs.declared.status.RunFault.{RunFault}
 use Rattle.engines.specs.declared.status.RunFault.TheVariants as run
-use Rattle.rehearsal.specs.declared.fault.RehearsalFault.{RehearsalFault}
-use Rattle.rehearsal.specs.declared.fault.RehearsalFault.TheVariants as rehearsal
 use Rattle.finder_cli.specs.declared.fault.ProgramFault.{ProgramFault}
 use Rattle.finder_cli.specs.declared.fault.ProgramFault.TheVariants as program
 
@@ -16,13 +14,6 @@ number_of_fault program.Thread = 2
 number_of_fault program.Stalled = 2
 number_of_fault program.Write = 2
 number_of_fault program.Memory = 3
-
--- the fault of a run for that of its rehearsal
-abbrev pub fault_of_rehearsal : RehearsalFault → RunFault
-fault_of_rehearsal rehearsal.Workers = run.Workers
-fault_of_rehearsal rehearsal.Thread = run.Thread
-fault_of_rehearsal rehearsal.Stalled = run.Stalled
-fault_of_rehearsal rehearsal.Memory = run.Memory
 
 -- the program's fault for a run's on this file
 abbrev pub fault_of_run : List ℕ → RunFault → ProgramFault

@@ -7,7 +7,7 @@ use Rattle.command_line.specs.declared.task.Form.TheVariants.{Text}
 use Rattle.finder_cli.specs.declared.engine.Engine.{Engine}
 use Rattle.finder_cli.specs.declared.engine.Engine.TheVariants as engine
 use Rattle.engines.specs.Runs.{Reports, ReportsFront, NamesFirstFault, IsNoWorkers, IsOfRun, IsOfVerifying}
-use Rattle.finder_cli.specs.Sessions.{HasStalledOn}
+use Rattle.live_engine.specs.Sessions.{HasStalledOn}
 use Rattle.engines.specs.Certified.{Certifies, CertifiesFront, Verifies, VerifiesFront}
 use Rattle.engines.specs.OutOfMemory.{RunsOut, RunsOutVerifying, WasReadWhole}
 use Rattle.engines.specs.Failures.{FailsToRead, FailsToWrite}

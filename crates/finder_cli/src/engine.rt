@@ -1,9 +1,9 @@
 //! The engines that read one trace, as the program calls them.
 
-use super::live::live;
 use byte_streams::{Reader, Sink, Source, Writer};
 use command_line::Form;
 use engines::{RunFault, Status, run, run_cert};
+use live_engine::live;
 use std::sync::Wait;
 use std::thread::Threads;
 use verdict::NoGate;

@@ -1,13 +1,11 @@
 //! The program Domepeeler: reads a recording of collaborative editors, judges it, and writes the report or a
 //! certificate; or checks a certificate; or replays a recording by threads in one session.
 //!
-//! `run`, `run_cert` and `run_verify` of the crate `engines`, and `live`, are the engines, over any readers
-//! and writers. `engine` calls those that read one trace. `program` joins them, `run_verify` and the words of
-//! the command line, in any world that opens streams; `machine` is the real world. `fault` has the exit
-//! statuses 2 and 3.
+//! `run`, `run_cert` and `run_verify` of the crate `engines`, and `live` of `live_engine`, are the engines,
+//! over any readers and writers. `engine` calls those that read one trace. `program` joins them, `run_verify`
+//! and the words of the command line, in any world that opens streams; `machine` is the real world. `fault`
+//! has the exit statuses 2 and 3.
 //!
-//! - `live` is a module, since it alone stands on sessions. The other engines, the streams and the command
-//!   line are crates below, so they are proved without the crates of sessions.
 //! - The program runs in a `World`: a trait that opens the stream of a word, is told when that is done with,
 //!   and writes a fault's line; contracts see what was done. Which files are opened, which engine runs with
 //!   which arguments, and the status: the contract of `finder` says it.
@@ -15,7 +13,6 @@
 
 mod engine;
 mod fault;
-mod live;
 mod machine;
 mod program;
 #[cfg(test)]

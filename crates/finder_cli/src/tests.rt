@@ -1,4 +1,3 @@
-//! What no clause says: the calls of a live session's gate, and texts of faults.
+//! What no clause says: texts of faults.
 
-mod live_sessions;
 mod texts;

@@ -1,8 +1,7 @@
 -- Along a walk the levels rise by one at most with each step; so a cycle through level 0 is no shorter than the
 -- way up to where it comes back from.
-use Rattle.std.proofs.Common.{◌≡◌, ℕ, zero, suc, ◌+◌, ◌<◌, ◌≤◌, ◌⊎◌, inl, inr, List, slice_index, subst, sym, arith}
+use Rattle.std.proofs.Common.{◌≡◌, ℕ, zero, suc, ◌+◌, ◌<◌, ◌≤◌, ◌⊎◌, inl, inr, List, slice_index, subst, arith}
 use Rattle.std.proofs.lemmas.Bool.{cases_eq}
-use Rattle.order_graph.specs.Lists.{Stands}
 use Rattle.list_search.specs.Walks.{HasCycle, Walk}
 use Rattle.level_search.specs.LowerBounds.{AreLowerBounds, IsEntered, level, rank, RisesByOne}
 use Rattle.level_search.specs.declared.lower_bounds.levels.Levels.{Levels}

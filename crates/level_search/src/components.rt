@@ -7,6 +7,7 @@ ghost use Rattle.list_search.specs.ScratchView.{Fits};
 ghost use Rattle.level_search.specs.Cores.{LiesOnCycle};
 
 mod edges;
+mod fresh;
 mod guess;
 mod tested;
 

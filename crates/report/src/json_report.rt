@@ -1,6 +1,6 @@
 //! The report as JSON.
 
-ghost use Rattle.std.specs.Prelude.{◌≡◌, IfOk, string_bytes};
+ghost use Rattle.std.specs.Prelude.{◌≡◌, IfOk};
 ghost use Rattle.serde_json.specs.Written.{compact_text};
 ghost use Rattle.verdict.specs.VerdictOf.{verdict_of};
 ghost use Rattle.report.specs.JsonReport.{report_data, report_json};
@@ -19,19 +19,18 @@ use verdict::Verdict;
 pub fn json(alloc: Global, recording: &Recording, verdict: &Verdict) -> Result<Vec<u8>, Memory>
     ensures { IfOk result (λ bytes. bytes.items ≡ report_json recording.now (verdict_of verdict.now)) }
 {
-    let object = compact(alloc, recording, verdict)?;
-    let mut text = Vec::from_slice(alloc, object.as_bytes())?;
+    let mut text = compact(alloc, recording, verdict)?;
     text.push(b'\n')?;
     Ok(text)
 }
 
 /// The object's text.
-fn compact(alloc: Global, recording: &Recording, verdict: &Verdict) -> Result<String, Memory>
-    ensures { IfOk result (λ text. string_bytes text
+fn compact(alloc: Global, recording: &Recording, verdict: &Verdict) -> Result<Vec<u8>, Memory>
+    ensures { IfOk result (λ text. text.items
         ≡ compact_text (report_data recording.now (verdict_of verdict.now))) }
 {
     let counts = counts_of(recording);
     let object = object_of(alloc, recording, counts, verdict)?;
-    let text = object.to_string(alloc)?;
+    let text = object.to_vec(alloc)?;
     Ok(text)
 }

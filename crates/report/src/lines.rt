@@ -15,6 +15,9 @@ use format_words::{push_doubled, push_faulty, push_names, push_number, push_orde
 use std::alloc::Global;
 use verdict::{Order, Step, Steps, Verdict};
 
+/// How many bytes a step's line has at most beside its names: `step`, the operation, ` :`, spaces and an LF.
+const STEP_WORDS: usize = 32;
+
 /// The report of a recording's verdict, as lines that each end with one LF: the counts, and then what the
 /// verdict is, whether the strong and the weak list specification hold, and the order or the steps. It trusts
 /// the verdict: of another recording's it makes the report that the verdict would have here.
@@ -116,12 +119,32 @@ fn push_steps(
     ensures { OnOk result (text.new.items
         ≡ text.old.items ++ text_of (map (report_step recording.now) steps.now)) }
 {
+    text.reserve(room_of_steps(recording, steps))?;
     for i in 0..steps.len() {
         if let Some(step) = steps.get(i) {
             push_step(alloc, text, recording, step)?;
         }
     }
     Ok(())
+}
+
+/// How many bytes the lines of steps take, or some more: all room is asked for at once.
+fn room_of_steps(recording: &Recording, steps: &Steps) -> usize {
+    let mut room: usize = 0;
+    for step in steps.items() {
+        room = room.saturating_add(room_of_step(recording, step));
+    }
+    room
+}
+
+/// How many bytes a step's line takes, or some more.
+fn room_of_step(recording: &Recording, step: &Step) -> usize {
+    let names = step.from.bytes().len() + step.to.bytes().len();
+    let shown = match recording.response(step.shown) {
+        None => 0,
+        Some(response) => response.text_len(),
+    };
+    shown.saturating_add(names).saturating_add(STEP_WORDS)
 }
 
 /// Adds a step's line: the two elements, the operation that shows them, and its whole response.

@@ -138,7 +138,7 @@ fn refused(
 fn steps_value(alloc: Global, recording: &Recording, steps: &Steps) -> Result<Value, Memory>
     ensures { IfOk result (λ v. view v ≡ array (steps_json recording.now steps.now)) }
 {
-    let mut values = Vec::new(alloc);
+    let mut values = Vec::with_capacity(alloc, steps.len())?;
     for i in 0..steps.len() {
         if let Some(step) = steps.get(i) {
             values.push(step_value(alloc, recording, step)?)?;

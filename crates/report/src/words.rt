@@ -33,18 +33,17 @@ fn ascii_text(alloc: Global, bytes: &[u8]) -> Result<String, Memory>
     requires { All (λ b. b < 128) bytes.now }
     ensures { IfOk result (λ text. string_bytes text ≡ bytes.now) }
 {
-    let mut text = String::new(alloc);
-    for byte in bytes {
-        text.push(char::from(*byte))?;
+    match std::str::from_utf8(bytes) {
+        Ok(text) => Ok(String::from_str(alloc, text)?),
+        Err(_) => unreachable!(),
     }
-    Ok(text)
 }
 
 /// The list of an order's names.
 pub fn order_value(alloc: Global, order: &Order) -> Result<Value, Memory>
     ensures { IfOk result (λ v. view v ≡ array (names_json order.now)) }
 {
-    let mut names = Vec::new(alloc);
+    let mut names = Vec::with_capacity(alloc, order.len())?;
     for i in 0..order.len() {
         if let Some(name) = order.get(i) {
             names.push(name_value(alloc, name)?)?;
@@ -67,7 +66,7 @@ pub fn returned_value(alloc: Global, recording: &Recording, name: OpName) -> Res
 fn response_value(alloc: Global, response: &Response) -> Result<Value, Memory>
     ensures { IfOk result (λ v. view v ≡ array (names_json response.now)) }
 {
-    let mut names = Vec::new(alloc);
+    let mut names = Vec::with_capacity(alloc, response.len())?;
     for i in 0..response.len() {
         if let Some(name) = response.get(i) {
             names.push(name_value(alloc, &name)?)?;

@@ -1,5 +1,6 @@
 //! The edges between neighbouring places of the lists, which a search takes one by one.
 
+use super::fresh::fresh_of;
 use crate::guesses::{NONE, at, put};
 use events::Memory;
 use order_graph::OrderGraph;
@@ -18,14 +19,14 @@ pub struct Edges {
 }
 
 impl Edges {
-    /// The edges of a graph, as the lists go. It goes over all places twice; memory is linear in the elements
-    /// and the edges.
+    /// The edges of a graph, as the lists go. It goes over all places twice, but for those that a list shows as
+    /// the one before it does; memory is linear in the elements and the edges.
     pub fn of(alloc: Global, graph: &OrderGraph) -> Result<Edges, Memory> {
         let elements = graph.elements() as usize;
         let mut next = Vec::from_elem(alloc, 0, elements)?;
         let mut last = Vec::from_elem(alloc, NONE, elements)?;
         for list in 0..graph.lists() {
-            count_edges(graph.list(list), &mut last, &mut next);
+            count_edges(fresh_part(graph, list), &mut last, &mut next);
         }
         let count = begins_of(&mut next);
         let mut edges = Edges {
@@ -35,7 +36,7 @@ impl Edges {
         };
         last.fill(NONE);
         for list in 0..graph.lists() {
-            edges.add_list(graph.list(list), &mut last);
+            edges.add_list(fresh_part(graph, list), &mut last);
         }
         Ok(edges)
     }
@@ -99,6 +100,12 @@ impl Edges {
             .saturating_add(self.ends.len())
             .saturating_add(1)
     }
+}
+
+/// The part of a list whose edges the list before it may lack.
+fn fresh_part(graph: &OrderGraph, list: u32) -> &[u32] {
+    let fresh = fresh_of(graph, list);
+    &graph.list(list)[fresh.from - 1..fresh.to]
 }
 
 /// Counts the edges of a list, each for the element that it goes from.

@@ -6,6 +6,7 @@ ghost use Rattle.level_search.specs.StrongComponents.{AreLinks, FitsLinks, HasVa
 ghost use Rattle.level_search.specs.StrongComponents.{IsOwned};
 ghost use Rattle.level_search.specs.StrongComponents.{IsRight, IsTested, after, rank, root};
 
+use super::fresh::{Fresh, fresh_of};
 use super::guess::Guess;
 use events::Memory;
 use order_graph::OrderGraph;
@@ -58,17 +59,19 @@ fn note_place(graph: &OrderGraph, guess: &Guess, list: u32, j: usize, links: &mu
     guess.ranks[a as usize] <= guess.ranks[b as usize]
 }
 
-/// Takes note of the places of a list; whether the components don't fall along it.
-fn note_list(graph: &OrderGraph, guess: &Guess, list: u32, links: &mut Links) -> bool
+/// Takes note of neighbours in a list; whether the components don't fall from one to the other.
+fn note_list(graph: &OrderGraph, guess: &Guess, list: u32, fresh: Fresh, links: &mut Links) -> bool
+    requires within { (1 ≤ fresh.from) × (fresh.to ≤ length (row (lists_of graph.now) list)) }
     requires values { HasValues (length graph.now.elements) guess.now }
     requires fits { FitsLinks (length graph.now.elements) links.old }
     requires links { AreLinks (lists_of graph.now) guess.now links.old }
     ensures fits { FitsLinks (length graph.now.elements) links.new }
     ensures links { AreLinks (lists_of graph.now) guess.now links.new }
-    ensures climbs { result ≡ true → (j x y : ℕ) → Stands (lists_of graph.now) list j x
-        → Stands (lists_of graph.now) list (j + 1) y → rank guess.now x ≤ rank guess.now y }
+    ensures climbs { result ≡ true → (j x y : ℕ) → fresh.from ≤ j + 1 → j + 1 < fresh.to
+        → Stands (lists_of graph.now) list j x → Stands (lists_of graph.now) list (j + 1) y
+        → rank guess.now x ≤ rank guess.now y }
 {
-    for j in 1..graph.list(list).len() {
+    for j in fresh.from..fresh.to {
         if !note_place(graph, guess, list, j - 1, links) {
             return false;
         }
@@ -76,7 +79,8 @@ fn note_list(graph: &OrderGraph, guess: &Guess, list: u32, links: &mut Links) ->
     true
 }
 
-/// Takes note of all places; whether the components fall along no list.
+/// Takes note of all places, but for neighbours that the list before shows too; whether the components fall
+/// along no list.
 fn note_lists(graph: &OrderGraph, guess: &Guess, links: &mut Links) -> bool
     requires values { HasValues (length graph.now.elements) guess.now }
     requires fits { FitsLinks (length graph.now.elements) links.old }
@@ -87,7 +91,8 @@ fn note_lists(graph: &OrderGraph, guess: &Guess, links: &mut Links) -> bool
         → Stands (lists_of graph.now) l (j + 1) y → rank guess.now x ≤ rank guess.now y }
 {
     for list in 0..graph.lists() {
-        if !note_list(graph, guess, list, links) {
+        let fresh = fresh_of(graph, list);
+        if !note_list(graph, guess, list, fresh, links) {
             return false;
         }
     }

@@ -1,5 +1,5 @@
 -- One place more, along which the components don't fall.
-use Rattle.std.proofs.Common.{◌≡◌, ℕ, ◌+◌, ◌-◌, length, subst, ap, arith, inl, inr}
+use Rattle.std.proofs.Common.{◌≡◌, ℕ, ◌+◌, ◌-◌, subst, ap, arith, inl, inr}
 use Rattle.std.proofs.lemmas.Bool.{cases_eq}
 use Rattle.order_graph.specs.Lists.{lists_of, Stands}
 use Rattle.level_search.proofs.components.tested.note_list.Goals as goal
@@ -13,18 +13,16 @@ loop-j-preserved c =
     record {
       fits = c.note_place.ensures.fits;
       links = c.note_place.ensures.links;
-      climbs = λ i x y under first second. elim (cases_eq (i + 1) j) [
+      climbs = λ i x y low_end under first second. elim (cases_eq (i + 1) j) [
         | inl same ↦
             let e : i ≡ j - 1 = omega arith in
             c.note_place.ensures.climbs c.if-not-note_place.false x y
             (subst (λ p. Stands rows l p x) e first)
             (subst (λ p. Stands rows l p y) (ap (λ n. n + 1) e) second)
-        | inr other ↦ c.loop-j.invariant.climbs i x y (omega arith) first second
+        | inr other ↦ c.loop-j.invariant.climbs i x y low_end (omega arith) first second
       ];
     }
 
 pub returns-clause-climbs : goal.returns-clause-climbs
-returns-clause-climbs c = λ true_is i x y first second.
-    let within = second.within in
-    let value = c.list-j-end.ensures.value in
-    c.loop-j.invariant.climbs i x y (omega (arith, c.loop-j-test.false, ap length value)) first second
+returns-clause-climbs c = λ true_is i x y low_end under first second.
+    c.loop-j.invariant.climbs i x y low_end (omega (arith, c.loop-j-test.false, under)) first second

@@ -7,6 +7,6 @@ abbrev pub invariant-loop-j : goal.invariant-loop-j
 invariant-loop-j l = record {
   fits : FitsLinks (length l.graph.elements) l.links;
   links : AreLinks (lists_of l.graph) l.guess l.links;
-  climbs : (i x y : ℕ) → i + 1 < l.j → Stands (lists_of l.graph) l.list i x
+  climbs : (i x y : ℕ) → l.fn.fresh.from ≤ i + 1 → i + 1 < l.j → Stands (lists_of l.graph) l.list i x
       → Stands (lists_of l.graph) l.list (i + 1) y → rank l.guess x ≤ rank l.guess y;
 }

@@ -6,6 +6,7 @@ use Rattle.std.proofs.lemmas.List.{get_or_past, length-map}
 use Rattle.specification.specs.Responses.{Responses, Returned}
 use Rattle.specification.specs.Elements.{numbers_in}
 use Rattle.order_graph.specs.Lists.{lists_of, row, Stands}
+use Rattle.level_search.specs.Fresh.{IsShownEarlier}
 use Rattle.level_search.proofs.components.tested.note_lists.Goals as goal
 
 pub loop-list-preserved : goal.loop-list-preserved
@@ -17,8 +18,17 @@ loop-list-preserved c =
       links = c.note_list.ensures.links;
       climbs = λ i j x y under first second. elim (cases_eq i l) [
         | inl same ↦
-            c.note_list.ensures.climbs c.if-not-note_list.false j x y
-            (subst (λ k. Stands rows k j x) same first) (subst (λ k. Stands rows k (j + 1) y) same second)
+            let here : Stands rows l j x = subst (λ k. Stands rows k j x) same first in
+            let next : Stands rows l (j + 1) y = subst (λ k. Stands rows k (j + 1) y) same second in
+            let earlier = λ (e : IsShownEarlier rows l x y). c.loop-list.invariant.climbs e.list e.place x y
+            e.earlier e.first e.second in
+            elim (cases_lt (j + 1) c.fresh_of-fresh.result.from) [
+              | inl low ↦ earlier (c.fresh_of-fresh.ensures.shown j x y here next (inl low))
+              | inr from ↦ elim (cases_lt (j + 1) c.fresh_of-fresh.result.to) [
+                | inl under ↦ c.note_list.ensures.climbs c.if-not-note_list.false j x y from under here next
+                | inr past ↦ earlier (c.fresh_of-fresh.ensures.shown j x y here next (inr past))
+              ]
+            ]
         | inr other ↦ c.loop-list.invariant.climbs i j x y (omega arith) first second
       ];
     }

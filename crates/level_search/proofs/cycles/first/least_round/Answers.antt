@@ -1,5 +1,5 @@
 -- The elements of shortest cycles through the element are those between, and the element itself.
-use Rattle.std.proofs.Common.{ℕ, ◌<◌, ◌≤◌, List, length, get_or, sym, subst, arith, inl, inr}
+use Rattle.std.proofs.Common.{ℕ, ◌<◌, ◌≤◌, length, get_or, sym, subst, arith, inl, inr}
 use Rattle.specification.specs.Responses.{Responses}
 use Rattle.order_graph.specs.Lists.{lists_of}
 use Rattle.list_search.specs.Distances.{IsDistanceBelow}

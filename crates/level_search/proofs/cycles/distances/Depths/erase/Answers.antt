@@ -1,5 +1,5 @@
 -- Who was among those reached is set back in turn; in the end none is left.
-use Rattle.std.proofs.Common.{◌≡◌, ℕ, ◌<◌, ◌⊎◌, inl, inr, get_or, length, replicate, slice_index, sym, ◌∙◌, arith}
+use Rattle.std.proofs.Common.{inl, inr, replicate, sym, ◌∙◌, arith}
 use Rattle.std.proofs.lemmas.List.{ext_get_or, get_or-replicate, length-replicate}
 use Rattle.level_search.proofs.cycles.distances.Depths.erase.Goals as goal
 

@@ -1,4 +1,4 @@
-use Rattle.std.proofs.Common.{◌≡◌, ℕ, ◌<◌, ◌⊎◌, length, slice_index, vec_len}
+use Rattle.std.proofs.Common.{◌≡◌, ℕ, ◌<◌, ◌⊎◌, slice_index, vec_len}
 use Rattle.list_search.specs.Distances.{IsAmong}
 use Rattle.level_search.proofs.cycles.distances.Depths.erase.Given as goal
 

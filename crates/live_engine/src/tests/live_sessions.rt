@@ -1,6 +1,6 @@
 //! The gate of a live session.
 
-use crate::live::{Lived, live};
+use crate::{Lived, live};
 use byte_streams::{Sink, Source};
 use engines::{RunFault, Status};
 use std::alloc::Global;

@@ -10,9 +10,9 @@ ghost use Rattle.rehearsal.specs.Replays.{HasStalled};
 ghost use Rattle.engines.specs.Runs.{IsNoWorkers, IsReportOn, NamesFirstFault, Reports, ReportsFront};
 ghost use Rattle.engines.specs.Failures.{FailsToRead, FailsToWrite};
 ghost use Rattle.engines.specs.OutOfMemory.{RunsOut, WasReadWhole};
-ghost use Rattle.finder_cli.specs.Endings.{fault_of_rehearsal};
+ghost use Rattle.live_engine.specs.Endings.{fault_of_rehearsal};
 ghost use Rattle.rehearsal.specs.Watched.{WasWatched};
-ghost use Rattle.finder_cli.specs.Sessions.{HasStalledOn, IsOfSession, IsWatched, IsWatchedOn};
+ghost use Rattle.live_engine.specs.Sessions.{HasStalledOn, IsOfSession, IsWatched, IsWatchedOn};
 
 use byte_streams::{Reader, Sink, Source, Writer};
 use command_line::MOST_WORKERS;

@@ -13,8 +13,8 @@ use Rattle.engines.specs.Runs.{NamesFirstFault}
 use Rattle.engines.specs.declared.status.RunFault.{RunFault}
 use Rattle.engines.specs.declared.status.RunFault.TheVariants.{Memory, Read, Stalled, Thread, Trace}
 use Rattle.engines.specs.declared.status.RunFault.TheVariants.{Workers, Write}
-use Rattle.finder_cli.specs.Endings.{fault_of_rehearsal}
-use Rattle.finder_cli.specs.Sessions.{HasStalledOn, IsOfSession, IsWatched, IsWatchedOn}
+use Rattle.live_engine.specs.Endings.{fault_of_rehearsal}
+use Rattle.live_engine.specs.Sessions.{HasStalledOn, IsOfSession, IsWatched, IsWatchedOn}
 
 -- no fault of threads or of memory is one of a text
 pub names-none : (before : Option (List ℕ)) (fault : RunFault) → IsOfSession fault

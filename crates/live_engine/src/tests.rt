@@ -1,0 +1,3 @@
+//! What no clause says: the calls of a live session's gate.
+
+mod live_sessions;
