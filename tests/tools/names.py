@@ -119,6 +119,7 @@ FILES = {
     "beginning": ("the shortest front of a trace that is not accepted; with its last line the session went wrong",
                   "tools/explaining/beginning.py"),
     "cause": ("where to look in the editor, by a name of its own", "tools/explaining/causes.py"),
+    "kind of editor": ("how inserts find their place, named by the user, so that causes which it can't have are not told", "tools/explaining/kinds.py"),
     "warning": ("what an accepted recording may hide; *unequal*: replicas end with different lists, or lack a change",
                 "tools/explaining/warnings.py"),
     "weak alone": ("weak holds and strong doesn't, which passes where `--weak` asks for no more", "tools/explaining/programs.py"),
