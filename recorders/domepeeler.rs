@@ -30,6 +30,8 @@
 //! Where a test fails by itself, the trace of each recording that it drops then is saved, and standard error has the verdict. A recording that is
 //! dropped while nothing has judged it, saved it or taken its text panics; so does one of which something was recorded since.
 //!
+//! Replicas and positions are `usize`; operations' numbers, clocks and counts of changes are `u32`.
+//!
 //! Where updates have vector clocks, `received_clock` writes the receipts, and refuses what is not causal.
 //!
 //! Each call that a trace can't say is `Refused`, and leaves the recording as it was. Threads share a recording in a `Mutex`.

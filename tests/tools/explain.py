@@ -85,7 +85,7 @@ WORDS = [
      "a: inserted by 0.1 (line 3)|b: inserted by 1.1 (line 4)|"
      "b arrived at replica 0 in line 5, a at replica 1 in line 6|"
      "Look at the order of concurrent inserts: a and b were inserted at the front without knowing of each other, and were shown in two different orders. "
-     "Use a rule that gives the same order everywhere (such as the replicas' numbers), also in short cuts, as for appending; not the order in which each replica received them.|"
+     "Use a rule that gives the same order everywhere (such as the replicas' numbers), also in special cases, as for appending; not the order in which each replica received them.|"
      "If the list is sorted by position identifiers, look at those of a and b: are the two equal, does one differ between replicas, are numbers compared as text, or was one not made between its neighbours'?" + stop(6, "replica 1 applies 0.1", 5)),
     ("a replica that turns two elements round when it deletes another", 2, "0 ins a 0 : a|1 ins b 0 : b|1 recv 0 1|1 read : a b|1 ins c 2 : a b c|1 del c : b a",
      "[b] before [a]: line 8, 1.4: replica 1 deleted c, answered [b] [a]|Where to look|"
@@ -186,14 +186,14 @@ WORDS = [
      "[b] was put directly behind [a]. The author of [c] knew neither, and 1.2 (line 7) shows [c] between the two. If inserts find their place by a "
      "neighbour, look at how [c] found its place there: if the search goes past [a], it must also go past all that was put behind [a], also in the next block of a list that is kept in blocks.|"
      "Look at the order of concurrent inserts: b and c were inserted without knowing of each other, and were shown in two different orders. Use a rule that "
-     "gives the same order everywhere (such as the replicas' numbers), also in short cuts, as for appending; not the order in which each replica received them."),
+     "gives the same order everywhere (such as the replicas' numbers), also in special cases, as for appending; not the order in which each replica received them."),
     ("an insert behind what the other author did not know, which is deleted", 2, "0 ins a 0 : a|0 ins b 1 : a b|0 del a : b|1 ins c 0 : c|1 recv 0 3|"
      "1 read : c b|0 recv 1 1|0 read : b c", "Where to look|"
      "[b] was put directly behind [a], which the author of [c] did not know. If inserts find their place by a neighbour, look at how [c] found its "
      "place: if the search goes past [a], it must also go past all that was put behind [a], also in the next block of a list that is kept in blocks. Look also at inserts beside "
      "deleted elements: where [a] was thrown away as deleted, nothing says where [b] belongs.|"
      "Look at the order of concurrent inserts: b and c were inserted without knowing of each other, and were shown in two different orders. Use a rule that "
-     "gives the same order everywhere (such as the replicas' numbers), also in short cuts, as for appending; not the order in which each replica received them."),
+     "gives the same order everywhere (such as the replicas' numbers), also in special cases, as for appending; not the order in which each replica received them."),
     ("an insert between two that are deleted by others", 3, "0 ins a 0 : a|0 ins b 1 : a b|1 recv 0 2|2 recv 0 2|2 ins c 1 : a c b|1 del a : b|"
      "0 del b : a|1 recv 0 3|1 read :|1 ins d 0 : d|1 recv 2 1|1 read : c d|2 recv 1 3|2 read : d c",
      "[d] before [c]: line 16 of the trace, 2.2: replica 2 read the list, answered [d] [c]|"
@@ -420,7 +420,7 @@ WORDS = [
      "Look first at whether 0.2 (line 4) was lost on its way to replica 1, or overtaken: no receipt there names it, though all other changes of "
      "replica 0 have one. In an editor that sends positions, later changes then land in the wrong place.|"
      "Look at the order of concurrent inserts: c and y were inserted directly behind a without knowing of each other, and were shown in two different orders. Use a "
-     "rule that gives the same order everywhere (such as the replicas' numbers), also in short cuts, as for appending; not the order in which each replica received them."
+     "rule that gives the same order everywhere (such as the replicas' numbers), also in special cases, as for appending; not the order in which each replica received them."
      + stop(4, "replica 0 inserts b, and follow 0.2 to replica 1")),
     ("a delete that meets an insert and a delete which did not know each other", 2, "0 ins a 0 : a|0 ins b 1 : a b|0 ins c 2 : a b c|1 recv 0 3|"
      "1 read : a b c|0 del a : b c|1 ins d 3 : a b c d|0 recv 1 2|0 read : b c d|1 del c : a b d|0 recv 1 3|0 read : b c",
@@ -780,16 +780,16 @@ STATEMENTS = [
     ("", "In Python, put this {} (the recording has 6 lines then): if recording.lines() == 6: breakpoint()"),
     ("language python\n", "In Python, put this {} (the recording has 6 lines then): if recording.lines() == 6: breakpoint()"),
     ("language javascript\n", "In JavaScript, put this {} (the recording has 6 lines then): if (recording.lines() === 6) debugger"),
-    ("language rust\n", 'In Rust, put this {} (the recording has 6 lines then): if recording.lines() == 6 {{ eprintln!("here") }}, with a breakpoint on it'),
+    ("language rust\n", 'In Rust, put this {} (the recording has 6 lines then): if recording.lines() == 6 {{ eprintln!("here") }}, with a breakpoint on the eprintln'),
     ("language c\n", "In C, put this {} (the recording has 6 lines then): if (domepeeler_lines(recording) == 6) raise(SIGTRAP);"),
     ("language emacs-lisp\n", "In Emacs Lisp, put this {} (the recording has 6 lines then): (when (= (domepeeler-lines recording) 6) (debug))"),
     ("language cobol\n", "In Python, put this {} (the recording has 6 lines then): if recording.lines() == 6: breakpoint()"),
-    ("language rust\nlanguage c\n", 'In Rust, put this {} (the recording has 6 lines then): if recording.lines() == 6 {{ eprintln!("here") }}, with a breakpoint on it'),
+    ("language rust\nlanguage c\n", 'In Rust, put this {} (the recording has 6 lines then): if recording.lines() == 6 {{ eprintln!("here") }}, with a breakpoint on the eprintln'),
 ]
 # By language the statement before the second of two receipts, in lines 5 and 6, that stand together.
 FOR_TWO = {
     "python": "if recording.lines() in (4, 5): breakpoint()", "javascript": "if ([4, 5].includes(recording.lines())) debugger",
-    "rust": 'if [4, 5].contains(&recording.lines()) { eprintln!("here") }, with a breakpoint on it',
+    "rust": 'if [4, 5].contains(&recording.lines()) { eprintln!("here") }, with a breakpoint on the eprintln',
     "c": "if (domepeeler_lines(recording) == 4 || domepeeler_lines(recording) == 5) raise(SIGTRAP);",
     "emacs-lisp": "(when (memq (domepeeler-lines recording) '(4 5)) (debug))",
 }

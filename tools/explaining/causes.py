@@ -102,10 +102,12 @@ DECIDES = ("what decides which of {two} and {one} comes first: once both are ins
 MAPPING = ("Look at how the position that a user sees is mapped to a place in the editor's own list{deleted}; and at whether the "
            "recorder writes the position that was asked for.")
 ADJUSTS = "how what comes is adjusted there for the replica's own changes that are still on their way, and these for what comes."
-OWN_BACK_AGAIN = "When {came} came, {back}, which replica {replica} had deleted itself ({delete}), came back{lost}. Look at "
+OWN_BACK_AGAIN = "When {came} came{line}, {back} came back, which replica {replica} had deleted itself by {delete}{lost}. Look at "
 OWN_ADJUSTED = "how the replica's own changes that are still on their way are adjusted for what arrives, and at how it takes them back and applies them anew, if it does."
-SHOWN_AGAIN = ("what applies that there: is an element that is marked as deleted shown again, made anew by an insert that arrives a second time, or brought back by a state that "
+SHOWN_AGAIN = ("what applies that: is an element that is marked as deleted shown again, made anew by an insert that arrives a second time, or brought back by a state that "
                "is older than the delete?")
+SPLIT = ("what {new} does there to the elements beside it: is a run (block) of them split, or made anew, without the mark that they are deleted? Else look for a state that is older than "
+         "the delete and takes the place of the replica's own.")
 OWN_LOST = ", and {missing} {is_} not there: perhaps that delete now hits {it}"
 HEALED = "Later replica {other} reads another list in {after} than in {before}, though it received and changed nothing between. Something that is not recorded did that: "
 BY_SERVER = ("behind a server, perhaps its answer to the replica's own change. Then server and replica make different things of one change: look at which changes each of them "
@@ -118,6 +120,9 @@ BESIDE_GONE = ("{passed} was put {side} {gone} ({insert}), which is deleted at r
 NUMBERS = ("If the editor decides by numbers (a clock, ids) which of two inserts at one place comes first, look at theirs: {element} stands behind "
            "{passed}, which replica {replica} had already. The number that {element} has must be greater than {theirs}; perhaps it is not. Usual causes: "
            "{causes}ids are compared as text, so 10 comes before 9.")
+NUMBERS_TREE = ("Look at where a new child is put: {element} stands behind {passed}, which replica {replica} had already. Perhaps its parent is not the one that was meant; or the place beside a "
+                "sibling, with all that hangs on that, is not found; or siblings stand in the order of numbers, and the one of {element} is not greater than {theirs} (usual causes: "
+                "{causes}ids are compared as text).")
 CLOCK = {True: "the clock does not advance with each insert; ", False: "the clock does not advance when changes arrive; the replica's number is compared before the clock; "}
 BESIDE_DELETED = ("If inserts find their place by a neighbour, look at inserts beside deleted elements: {which}. If replicas throw "
                   "deleted elements away, nothing says then where the insert belongs; if they keep them, the search for its place must treat them like "
@@ -146,12 +151,17 @@ SETTLED_BY = {
 }
 PAST = ("If inserts find their place by a neighbour, look at how [{other}] found its place{there}: if the search goes past [{behind}], it must also go past all that was put "
         "behind [{behind}], also in the next block of a list that is kept in blocks.")
+INSIDE = ("{operation} shows [{new}] between [{left}] and [{right}], though [{one}] was put directly {side} [{beside}] by {insert}, which did not know of it. In a tree an element stands beside a "
+          "sibling and all that hangs on that: look at how the place before or behind a sibling is found, by the first or last of all that hangs on it, and only then at the order of "
+          "siblings.")
 BETWEEN = "[{element}] was put directly behind [{behind}]. The author of [{other}] knew neither, and {operation} shows [{other}] between the two. "
 BEHIND_UNKNOWN = "[{element}] was put directly behind [{behind}], which the author of [{other}] did not know. "
 BEHIND_DELETED = " Look also at inserts beside deleted elements: where [{behind}] was thrown away as deleted, nothing says where [{element}] belongs."
 CONCURRENT = ("Look at the order of concurrent inserts: {first} and {then} were inserted{place} without knowing of each other, and were shown "
-              "in two different orders. Use a rule that gives the same order everywhere (such as the replicas' numbers), also in short cuts, as for "
-              "appending; not the order in which each replica received them.{print}")
+              "in two different orders.{rule}{print}")
+RULE = (" Use a rule that gives the same order everywhere (such as the replicas' numbers), also in special cases, as for appending; not the order in which each replica received them.")
+RULES = {"": RULE, NEIGHBOURS: RULE, POSITIONS: RULE, IDENTIFIERS: "",
+         TREE: " Children of one parent must stand in one order everywhere (such as by the replicas' numbers), and each with all that hangs on it."}
 PRINT = {  # what tells a fault of what is sent from one of how it is applied
     "": "", POSITIONS: " Client and server must adjust alike, and each change once.",
     NEIGHBOURS: " Print what replicas {one} and {other} keep of both (neighbour, number, author): if it differs, look at what is sent and what changes it later; if not, at how the "
@@ -451,10 +461,13 @@ def own_back(evidence: Evidence) -> list:
     if not came or not deletes or len(deletes) != len(evidence.surplus) or evidence.repeated:
         return []
     is_one = not evidence.missing[1:]
+    arrival = evidence.recording.arrival(came[0], operation.replica) if not came[1:] else None
+    line = f" in line {arrival.line}" if arrival is not None else ""
+    new = [change for change in came if change.kind == "ins" and change.element not in evidence.surplus]
+    look = OWN_ADJUSTED if is_possible("positions", evidence.kind) else SPLIT.format(new=f"the insert of {new[0].element}" if len(came) == 1 else "what came") if new else SHOWN_AGAIN
     lost = OWN_LOST.format(missing=listed(evidence.missing, MOST_TOLD), is_="is" if is_one else "are", it="it" if is_one else "one of them") if evidence.missing else ""
     return [Cause("own back", OWN_BACK_AGAIN.format(came=named(came), back=listed(evidence.surplus, MOST_TOLD), replica=operation.replica,
-                                                    delete=listed(list(map(at, deletes)), MOST_TOLD), lost=lost)
-                  + (OWN_ADJUSTED if is_possible("positions", evidence.kind) else SHOWN_AGAIN))]
+                                                    delete=listed(list(map(at, deletes)), MOST_TOLD), lost=lost, line=line) + look)]
 
 
 def healed(evidence: Evidence) -> list:
@@ -535,7 +548,7 @@ def of_position(evidence: Evidence) -> list:
     gone = beside_gone(evidence, passed[0])
     if has_delete and is_younger_by_name(name, passed):
         return [*gone, Cause("mapping", mapped), *sorted_by]
-    numbers = Cause("numbers", NUMBERS.format(element=name, passed=listed(passed, MOST_TOLD), replica=operation.replica, theirs=theirs, causes=CLOCK[are_own]))
+    numbers = Cause("numbers", (NUMBERS_TREE if evidence.kind == TREE else NUMBERS).format(element=name, passed=listed(passed, MOST_TOLD), replica=operation.replica, theirs=theirs, causes=CLOCK[are_own]))
     told = [cause for cause in [*gone, numbers, *sorted_by] if is_possible(cause.name, evidence.kind)]
     if not told:
         return [Cause("mapping", mapped)]
@@ -583,6 +596,25 @@ def identifiers(insert: Operation, before: list, behind: list) -> list:
         return []
     names = joined([*before, insert.element, *behind])
     return [Cause("identifiers", IDENTIFIERS_OF.format(names=names, line=insert.line, element=insert.element))]
+
+
+def put_inside(evidence: Evidence) -> list:
+    """In a tree, of what came last: that it stands between two elements of which one was put directly beside the other without knowing of it."""
+    if evidence.kind != TREE or not evidence.arrivals:
+        return []
+    receipt, new = evidence.arrivals[-1]
+    operation = next((one for one in evidence.recording.streams[receipt.replica][receipt.before:] if one.kind != "view" and one.line <= evidence.last_line), None)
+    shown = operation.response if operation is not None and operation.has_seen(new) else []
+    place = shown.index(new.element) if new.element in shown else 0
+    if not 0 < place < len(shown) - 1:
+        return []
+    left, right = shown[place - 1], shown[place + 1]
+    for name, beside, side in (left, right, 1), (right, left, 0):
+        insert = evidence.recording.inserts[name][0]
+        if neighbours(insert)[side] == beside and not new.has_seen(insert) and not insert.has_seen(new):
+            return [Cause("inside", INSIDE.format(operation=at(operation), new=new.element, left=left, right=right, one=name, side="before" if side else "behind", beside=beside,
+                                                  insert=at(insert)))]
+    return []
 
 
 def came_between(evidence: Evidence) -> list:
@@ -636,11 +668,12 @@ def of_refusal(evidence: Evidence, weak: bool) -> list:
             return [*turned_by_itself(evidence), *lost(evidence), *reordered(evidence), *came_between(evidence), *settled, Cause("concurrent", told), *beside_deleted(evidence)]
         settled = settled_by_another(evidence, first, then)
         behind, is_gone = behind_unknown(evidence, first, then)
-        concurrent = settled or [*behind, Cause("concurrent", CONCURRENT.format(first=first.element, then=then.element, place=place_of_both(first, then), print=printed(evidence)))]
+        concurrent = settled or [*behind, Cause("concurrent", CONCURRENT.format(first=first.element, then=then.element, place=place_of_both(first, then), rule=RULES[evidence.kind],
+                                                                           print=printed(evidence)))]
         is_told = evidence.between is not None or bool(concurrent[1:]) and not is_gone
         causes = [concurrent, beside_deleted(evidence, is_told)]
         is_deleted_first = evidence.lost_neighbours and not are_put_at_once(first, then) and not is_told and not evidence.is_fine_beside_deleted
-        return [*turned_by_itself(evidence), *lost(evidence), *reordered(evidence), *came_between(evidence), *sum(causes[::-1] if is_deleted_first else causes, []), sorted_alike(evidence), *moved_insert(moved)]
+        return [*turned_by_itself(evidence), *lost(evidence), *reordered(evidence), *came_between(evidence), *put_inside(evidence), *sum(causes[::-1] if is_deleted_first else causes, []), sorted_alike(evidence), *moved_insert(moved)]
     later, old = (first, then) if first.has_seen(then) else (then, first)
     moved = moved_over(evidence)
     told = seen(evidence, later, old, not (weak and moved))
@@ -769,7 +802,7 @@ def moved_insert(moved: dict) -> list:
 
 def beside_deleted(evidence: Evidence, is_told_otherwise: bool = False) -> list:
     """Of inserts beside deleted elements; where the order is told otherwise, of those alone that came when these were deleted."""
-    if not evidence.lost_neighbours and (is_told_otherwise or not evidence.hidden_neighbours):
+    if not evidence.lost_neighbours and (is_told_otherwise or evidence.kind == TREE or not evidence.hidden_neighbours):
         return []
     if evidence.lost_neighbours:
         arrival, deletes = evidence.lost_neighbours[-1]

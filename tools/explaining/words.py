@@ -9,7 +9,7 @@ from typing import NamedTuple
 from . import debuggers
 from .causes import ALONE, Cause, astray, causes_of, otherwise
 from .evidence import MOST_ARRIVED, Evidence
-from .kinds import POSITIONS
+from .kinds import POSITIONS, TREE
 from .programs import WEAK_ALONE, is_weak_alone
 from .recordings import Operation, Receipt, Recording, place_asked
 from .telling import FIRST_STEPS, at, counted, did, joined, listed
@@ -250,7 +250,7 @@ def gone_there(deletes: list) -> str:
 def beside_hidden(evidence: Evidence) -> list:
     """Which elements had been put beside ones that are deleted for the response that shows them."""
     return [f"{insert.element} was put {beside(insert, names)}. At {at(operation)}, {gone_by(evidence, names, operation)}"
-            for insert, names, operation in evidence.hidden_neighbours]
+            for insert, names, operation in (evidence.hidden_neighbours if evidence.kind != TREE else [])]
 
 
 def gone_by(evidence: Evidence, names: list, operation: Operation) -> str:
