@@ -386,10 +386,10 @@ class Recording:
 
     @_alone
     def judge(self, program: Optional[Words] = None, weak: bool = False) -> Report:
-        """The program's report on this recording, and as `warnings` what it may hide where it says `accepted`; with `weak`, where weak
-        holds; and of any whether calls were refused. The program is the words that are given, that of $DOMEPEELER, or `domepeeler`."""
+        """The program's report on this recording, and as `warnings` what it may hide where it says `accepted`, or that weak holds,
+        asked for or not; and of any whether calls were refused. The program is the words that are given, that of $DOMEPEELER, or `domepeeler`."""
         report = Report(self._report(program))
-        is_passing = report["verdict"] == "accepted" or (weak and report.get("weak") is True)
+        is_passing = report["verdict"] == "accepted" or report.get("weak") is True
         report["warnings"] = self.warnings() if is_passing else self._refusals()
         return report
 

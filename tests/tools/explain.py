@@ -1374,6 +1374,11 @@ def from_yjs(tally: Tally, program: str, folder: str) -> None:
                           env=variables | {"RECORDING": "page.trace"})
     tally.check("Yjs: as it is copied", done.returncode == 0 and
                 Path(copied, "page.trace").read_bytes() == (YJS / "page.trace").read_bytes(), done)
+    losing, test = Path(copied, "losing.test.mjs"), Path(copied, "page.test.mjs").read_text()
+    compares = next(line for line in test.splitlines(keepends=True) if "assert.equal(page.toString()" in line)
+    losing.write_text(test.replace(compares, "").replace("if (to !== from)", "if (to !== from && (from !== 2 || to !== 0))"))
+    done = subprocess.run(["node", "--test", "--test-reporter=tap", losing.name], capture_output=True, text=True, cwd=copied, env=variables)
+    tally.check("Yjs: a network that loses an update for ever", done.returncode == 1 and "replica 0 never hears of replica 2" in done.stdout, done)
     done = subprocess.run(["node", "--test", YJS / "recorded_yjs.test.mjs"], capture_output=True, text=True, env=variables)
     tally.check("Yjs: what is recorded", done.returncode == 0, done.stdout)
 

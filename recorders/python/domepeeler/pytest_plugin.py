@@ -273,11 +273,11 @@ def told_of(item: pytest.Item, one: Judged, number: Optional[int], has_failed: b
     one.state = state_of(one.recording)
     try:
         report = one.recording.judge(weak=one.weak)
-        one.warnings = report["warnings"]
     except Exception as why:  # whatever it is, it is an error of this test alone
         told = f"The recording was not judged: {why}"
     else:
         is_passing = report["verdict"] == "accepted" or one.weak and report.get("weak") is True
+        one.warnings = report["warnings"] if is_passing else []
         one.is_weak_alone = is_passing and report["verdict"] != "accepted"
         refused = [line for line in one.state[1] if is_over or not line.startswith(NEVER_CAME)]
         if is_passing and not has_failed and not refused:
