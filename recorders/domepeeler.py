@@ -1007,6 +1007,8 @@ def _escaped(text: str) -> str:
 
 
 def _listed(response: Any) -> List[Any]:
+    if isinstance(response, (set, frozenset)):
+        raise Refused("a response is a list: a set has no order")
     try:
         names = None if isinstance(response, (str, bytes)) else iter(response)
     except TypeError:

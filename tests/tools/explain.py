@@ -1445,6 +1445,51 @@ def from_no_answer(tally: Tally, program: str, folder: str) -> None:
         tally.check(f"record.py: {words}", done.returncode == 2 and done.stderr.endswith(wanted) and not done.stdout and "Traceback" not in done.stderr, done)
 
 
+SOON = """
+import sys
+import {0}
+from {1} import run_command
+{0}.MOST_OF_VERSION = 1
+run_command({2})
+"""
+
+
+def without_end(tally: Tally, program: str, folder: str) -> None:
+    """A program that never answers its version is no domepeeler; and an engine that has ended does not answer, though what it has left in the
+    background holds its output. Where SIGCHLD is ignored, verdicts count all the same."""
+    serving, engine, wrong = (Path(folder, name) for name in ("serving", "engine_left.sh", "wrong.py"))
+    serving.write_text("#!/bin/sh\nexec sleep 60\n")
+    engine.write_text(f"#!/bin/sh\nsetsid sleep 60 &\necho $! > '{folder}/left'\nread plan\necho trace 1\nexit 5\n")
+    for path in serving, engine:
+        path.chmod(0o755)
+    for paths, module, runner, given, words in (("recorders/engines", "random_sessions", "random_sessions", "''", ["list_crdt", str(serving)]),
+                                                ("tools", "explaining.programs", "explaining.commands", "'judge_many', 'many_command'", ["--program", str(serving), folder])):
+        done = limited([sys.executable, "-c", SOON.format(module, runner, given), *words], 20, env=os.environ | {"PYTHONPATH": str(ROOT / paths)})
+        tally.check(f"a program that never ends, asked for its version by {runner}", done.returncode == 2 and not done.stdout and re.search(
+            r": asked for its version it did not answer within 1 seconds?\n$", done.stderr), done)
+    done = limited([RECORD, str(engine), program, "--sessions", "1"], 40)
+    tally.check("record.py: an engine that has ended, and what it left holds its output", done.returncode == 2 and done.stderr ==
+                f"record.py: {engine}: it ended with status 5 before the line `end`; its last line is `trace 1`\n", done)
+    subprocess.run(["kill", Path(folder, "left").read_text().strip()], capture_output=True)
+    wrong.write_text("from list_crdt import ListCrdt\n\nclass Engine(ListCrdt):\n    def names(self):\n        return super().names()[1:]\n")
+    usual = [RECORD, str(wrong), program, "--sessions", "3"]
+    told, ignoring = (subprocess.run([*before, *usual], capture_output=True, text=True) for before in ([], ["sh", "-c", "trap '' CHLD; exec \"$@\"", "sh"]))
+    tally.check("record.py: SIGCHLD is ignored", told.returncode == 1 and "contents" in told.stdout and (ignoring.returncode, ignoring.stdout, ignoring.stderr)
+                == (told.returncode, told.stdout, told.stderr), ignoring)
+    trace = Path(folder, "ignoring.trace")
+    trace.write_text("trace 1\nreplicas 1\n0 ins a 0 : a\n0 read :\n")
+    done = subprocess.run(["sh", "-c", "trap '' CHLD; exec \"$@\"", "sh", EXPLAIN, "--program", program, str(trace)], capture_output=True, text=True)
+    tally.check("explain: SIGCHLD is ignored", (done.returncode, done.stderr) == (1, "") and done.stdout.startswith("contents 0.2: "), done)
+
+
+def limited(words: list, seconds: float, **given: object) -> subprocess.CompletedProcess:
+    """A run that is to end within so many seconds."""
+    try:
+        return subprocess.run(words, capture_output=True, text=True, timeout=seconds, **given)
+    except subprocess.TimeoutExpired as error:
+        return subprocess.CompletedProcess(error.cmd, None, "", "it hangs")
+
+
 WAITS_FOR_ONE_THAT_BEGINS = """
 import threading, time
 from random_sessions import wait_for
@@ -2381,6 +2426,7 @@ def main() -> None:
         from_yjs(tally, program, folder)
         from_own_engine(tally, program, folder)
         from_no_answer(tally, program, folder)
+        without_end(tally, program, folder)
         record_ended(tally, program, folder)
         arguments(tally, program, folder)
         astray(tally, program, folder)

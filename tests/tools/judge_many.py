@@ -303,6 +303,11 @@ def jobs_of_ci(tally: Tally, program: str, folder: str) -> None:
     tally.check("CI: it can't write", (done.returncode, done.stdout, done.stderr) == (2, "", told), done)
     done = in_ci(project_of(folder, {"unread.trace": "0 reads :"}), path, step, {})
     tally.check("CI: no page, and none is named", done.returncode == 2 and done.stdout.endswith("1 not accepted: judged/junit.xml has them all\n"), done)
+    done = in_ci(project_of(folder, {"a.trace": "0 ins a 0 : a|0 read :"}), path, f"trap '' CHLD; exec {step}", {})
+    tally.check("CI: SIGCHLD is ignored, as by a daemon", done.returncode == 1 and "a.trace: contents 0.2: " in done.stdout and
+                "1 not accepted: " in done.stdout, done)
+    done = in_ci(project_of(folder, {"a.trace": "0 ins a 0 : a|0 read :"}), path, "trap '' CHLD; exec domepeeler-judge-many recordings", {})
+    tally.check("CI: SIGCHLD is ignored by what starts judge_many", (done.returncode, done.stderr) == (1, "") and "1 trace: 1 contents" in done.stdout, done)
     done = in_ci(project_of(folder, {}), path, step, {"GITHUB_ACTIONS": "true"})
     tally.check("CI: no recording", done.returncode == 2 and done.stderr.startswith("domepeeler-judge-many: "), done)
     done = in_ci(project_of(folder, ACCEPTED), path.partition(os.pathsep)[2], step, {})
@@ -1659,6 +1664,13 @@ def stray(tally: Tally, kind: str, place: str, words: list, here: dict) -> None:
                         (re.search(rf"^no task judges (night|\.)/{name}: is there a part behind 99\?\n$", done.stderr, re.MULTILINE) is not None) == fails, done)
         shutil.rmtree(f"{place}/night/part7")
         Path(place, "night", name).unlink()
+    if kind != "kubernetes":
+        for last, name, fails in ("9", "part9/x.trace", False), ("9", "part10/x.trace", True), ("", "part99/x.trace", False):
+            write(f"{place}/night", {name: "0 ins a 0 : a"})
+            done = subprocess.run(words, cwd=place, capture_output=True, text=True, env=here | ({"SLURM_ARRAY_TASK_MAX": last} if last else {}))
+            tally.check(f"tasks: {kind}: {name} where the last task is {last or 'not known'}", done.returncode == (2 if fails else 0) and (
+                f"no task judges night/{name}: is there a part behind 9?\n" in done.stderr) == fails, done)
+            shutil.rmtree(f"{place}/night/{name.partition('/')[0]}")
 
 
 def script_of_ci(tally: Tally, program: str, folder: str) -> None:
@@ -1953,6 +1965,16 @@ def big_traces(tally: Tally, program: str, folder: str) -> None:
     rows_without = [json.loads(line) | {"seconds": 0} for line in done.stdout.splitlines()]
     tally.check("big traces: where one that looks is killed", os.path.exists(f"{folder}/killed") and rows_without == told[0]
                 and (done.returncode, done.stderr) == (1, ""), (done.returncode, done.stderr))
+    beside = Path(folder, "beside")
+    beside.mkdir()
+    Path(beside, "token.py").write_text("import time\n\ntime.sleep(60)\n")
+    Path(beside, "bisect.py").write_text("print('mine')\n")
+    try:
+        done = subprocess.run([TOOL, "--program", program, "--json", "--jobs", "3", "--", folder], capture_output=True, text=True, cwd=beside, timeout=40)
+    except subprocess.TimeoutExpired as error:
+        done = subprocess.CompletedProcess(error.cmd, None, "", "it hangs")
+    tally.check("big traces: a module of the current folder has the name of one of Python's", done.stderr == "" and [
+        json.loads(line) | {"seconds": 0} for line in done.stdout.splitlines()] == told[0], done.stderr)
     sizes = [path.stat().st_size for path in Path(folder).glob("*.trace")]
     tally.check("big traces: the same rows", told[0] == told[1] and [row["verdict"] for row in told[0]] == [*["contents"] * 5, "accepted"]
                 and min(sizes) > 1 << 20, (told[0] and told[0][0].get("fails_at"), sizes))
