@@ -1445,6 +1445,8 @@ def from_no_answer(tally: Tally, program: str, folder: str) -> None:
         tally.check(f"record.py: {words}", done.returncode == 2 and done.stderr.endswith(wanted) and not done.stdout and "Traceback" not in done.stderr, done)
 
 
+# Runs a command where SIGCHLD is ignored, so that nobody hears the status of what has ended. A shell would hear it.
+IGNORING = [sys.executable, "-c", "import os, signal, sys; signal.signal(signal.SIGCHLD, signal.SIG_IGN); os.execvp(sys.argv[1], sys.argv[1:])"]
 SOON = """
 import sys
 import {0}
@@ -1473,12 +1475,12 @@ def without_end(tally: Tally, program: str, folder: str) -> None:
     subprocess.run(["kill", Path(folder, "left").read_text().strip()], capture_output=True)
     wrong.write_text("from list_crdt import ListCrdt\n\nclass Engine(ListCrdt):\n    def names(self):\n        return super().names()[1:]\n")
     usual = [RECORD, str(wrong), program, "--sessions", "3"]
-    told, ignoring = (subprocess.run([*before, *usual], capture_output=True, text=True) for before in ([], ["sh", "-c", "trap '' CHLD; exec \"$@\"", "sh"]))
+    told, ignoring = (subprocess.run([*before, *usual], capture_output=True, text=True) for before in ([], IGNORING))
     tally.check("record.py: SIGCHLD is ignored", told.returncode == 1 and "contents" in told.stdout and (ignoring.returncode, ignoring.stdout, ignoring.stderr)
                 == (told.returncode, told.stdout, told.stderr), ignoring)
     trace = Path(folder, "ignoring.trace")
     trace.write_text("trace 1\nreplicas 1\n0 ins a 0 : a\n0 read :\n")
-    done = subprocess.run(["sh", "-c", "trap '' CHLD; exec \"$@\"", "sh", EXPLAIN, "--program", program, str(trace)], capture_output=True, text=True)
+    done = subprocess.run([*IGNORING, EXPLAIN, "--program", program, str(trace)], capture_output=True, text=True)
     tally.check("explain: SIGCHLD is ignored", (done.returncode, done.stderr) == (1, "") and done.stdout.startswith("contents 0.2: "), done)
 
 

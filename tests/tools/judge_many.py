@@ -248,6 +248,9 @@ def in_ci(project: str, path: str, step: str, variables: dict) -> subprocess.Com
                           stdin=subprocess.DEVNULL, capture_output=True, text=True)
 
 
+# Runs a command where SIGCHLD is ignored, so that nobody hears the status of what has ended. A shell would hear it.
+IGNORING = "python3 -c 'import os, signal, sys; signal.signal(signal.SIGCHLD, signal.SIG_IGN); os.execvp(sys.argv[1], sys.argv[1:])'"
+
 # Of a name that writes lines and colours, how it is shown, and how GitHub's form has that.
 ODD = {"x\n::error::forged.trace": ("x\\n::error::forged.trace", "x\\n%3A%3Aerror%3A%3Aforged.trace"),
        "y\x1b[31m.trace": ("y\\x1b[31m.trace", "y\\x1b[31m.trace")}
@@ -303,10 +306,10 @@ def jobs_of_ci(tally: Tally, program: str, folder: str) -> None:
     tally.check("CI: it can't write", (done.returncode, done.stdout, done.stderr) == (2, "", told), done)
     done = in_ci(project_of(folder, {"unread.trace": "0 reads :"}), path, step, {})
     tally.check("CI: no page, and none is named", done.returncode == 2 and done.stdout.endswith("1 not accepted: judged/junit.xml has them all\n"), done)
-    done = in_ci(project_of(folder, {"a.trace": "0 ins a 0 : a|0 read :"}), path, f"trap '' CHLD; exec {step}", {})
+    done = in_ci(project_of(folder, {"a.trace": "0 ins a 0 : a|0 read :"}), path, f"{IGNORING} {step}", {})
     tally.check("CI: SIGCHLD is ignored, as by a daemon", done.returncode == 1 and "a.trace: contents 0.2: " in done.stdout and
                 "1 not accepted: " in done.stdout, done)
-    done = in_ci(project_of(folder, {"a.trace": "0 ins a 0 : a|0 read :"}), path, "trap '' CHLD; exec domepeeler-judge-many recordings", {})
+    done = in_ci(project_of(folder, {"a.trace": "0 ins a 0 : a|0 read :"}), path, f"{IGNORING} domepeeler-judge-many recordings", {})
     tally.check("CI: SIGCHLD is ignored by what starts judge_many", (done.returncode, done.stderr) == (1, "") and "1 trace: 1 contents" in done.stdout, done)
     done = in_ci(project_of(folder, {}), path, step, {"GITHUB_ACTIONS": "true"})
     tally.check("CI: no recording", done.returncode == 2 and done.stderr.startswith("domepeeler-judge-many: "), done)
