@@ -1179,12 +1179,12 @@ def places(tally: Tally, program: str, folder: str) -> None:
                 paragraph(got, "In a debugger") == "  stop before line 7 of the trace, where replica 1 reads the list. The editor then writes deep/my.ndjson:3.", got)
     kept = smaller.read_text().splitlines()[2:], Path(f"{smaller}.lines").read_text()
     tally.check("places: of a small trace", kept == (["0 ins a 0 : a", "1 recv 0 1", "1 read : a", "1 read :"],
-                                                   "6\n3 my.log.1:1\n4 my.out:2\n5 my.tsv:2\n6 deep/my.ndjson:3\n"), kept)
+                                                   "6\nsmall\n3 my.log.1:1\n4 my.out:2\n5 my.tsv:2\n6 deep/my.ndjson:3\n"), kept)
     Path(f"{path}.lines").write_text("7\nlog\n3 journal:1\n4 my.py:2\n5 my.py:2\n7 a, b:3\n")
     got = explain(program, ["--small", str(smaller), str(path)]).out.decode()
     kept = Path(f"{smaller}.lines").read_text()
     tally.check("places: of a log of any name", paragraph(got, "In your log") == "  line 3: journal:1\n  lines 4 and 5: my.py:2\n  line 7: a, b:3" and
-                "breakpoint" not in got and kept == "6\nlog\n3 journal:1\n4 my.py:2\n5 my.py:2\n6 a, b:3\n", (got, kept))
+                "breakpoint" not in got and kept == "6\nsmall\nlog\n3 journal:1\n4 my.py:2\n5 my.py:2\n6 a, b:3\n", (got, kept))
     Path(f"{path}.lines").write_text("7\n3 my.log:1\n4 my.py:2\n5 my.log:2\n7 my.log:3\n")
     got = explain(program, [str(path)]).out.decode()
     tally.check("places: of a log and of code", "\nIn your code\n" in got and "breakpoint" in got, got)
@@ -1334,7 +1334,16 @@ def saved(tally: Tally, program: str, folder: str) -> None:
     recording.save(str(path))
     smaller = path.with_name("smaller.trace")
     smaller.write_text("trace 1\nreplicas 1\n")
-    Path(f"{smaller}.lines").write_text("2\n")
+    for beside in None, "2\n", "2\nnote small\n":
+        if beside:
+            Path(f"{smaller}.lines").write_text(beside)
+        got = explain(program, ["--small", str(smaller), str(path)])
+        tally.check(f"saved: no small trace in the place of one that --small did not write, {beside!r}", (got.status, got.out) == (2, b"") and got.err ==
+                    f"domepeeler-explain: {smaller} is a trace that --small did not write, so it is not written to\n".encode() and
+                    smaller.read_text() == "trace 1\nreplicas 1\n", got)
+    smaller.unlink()
+    explain(program, ["--small", str(smaller), "-"], text_of(1, "0 ins a 0 : a|0 read :").encode())
+    tally.check("saved: a small trace has a file beside it", (smaller.read_text().count("\n"), Path(f"{smaller}.lines").read_text()) == (4, "4\nsmall\n"))
     explain(program, ["--small", str(smaller), str(path)])
     got = explain(program, [str(smaller)])
     tally.check("saved: a small trace in the place of another", smaller.read_bytes().count(b"\n") == 6 and got.status == 1 and not warned(got), got)

@@ -1268,6 +1268,14 @@ def overwriting(tally: Tally, program: str, folder: str) -> None:
     tally.check("overwriting: what stands beside the small trace", got.returncode == 2 and not got.stdout, got)
     tally.check("overwriting: all is as it was", Path(path).read_bytes() == text and sorted(os.listdir(folder)) == ["a.trace", "a.trace.lines", "link", "same"],
                 os.listdir(folder))
+    for name, other in ("0", "trace 1\nreplicas 1\n0 ins b 0 : b\n"), ("1", "trace 2\nreplicas 1\n0 view :\n"):  # as in `--junit *.trace`
+        first = Path(folder, f"{name}.trace")
+        first.write_text(other)
+        for words in [explain, "--small", first, path], [explain, "--html", first, path], [explain, "--svg", first, path], [TOOL, "--junit", first, path]:
+            got = subprocess.run([words[0], "--program", program, *words[1:]], capture_output=True, text=True)
+            tally.check(f"overwriting: another trace, {words[1]} {name}", (got.returncode, got.stdout, got.stderr, first.read_text()) == (
+                2, "", f"{name_of(words[0])}: {first} is a trace{' that --small did not write' * (words[1] == '--small')}, so it is not written to\n", other), got)
+        first.unlink()
     old = Path(folder, "old.html")
     old.write_text("old")
     old.chmod(0o640)

@@ -10,15 +10,13 @@ import time
 from pathlib import Path
 from typing import NamedTuple
 
-from .files import SIDE, Unread, read_file
+from .files import BEGINS, SIDE, Unread, head, read_file
 
 TRACE = ".trace"  # in any case
 COMPRESSED = re.compile(r"(.*\.trace)\.(gz|bz2|xz|zst|zstd|lz4|lz|lzma|lzo|br|7z|rar|zip|z|tgz|tbz2?|txz|tar|tar\.[a-z0-9]+)", re.IGNORECASE | re.DOTALL)
 LOOKS_LIKE = re.compile(r"(.*\.trace)(?P<more>.+)", re.IGNORECASE | re.DOTALL)
 NUMBERED = re.compile(r"[.-][0-9]+")  # of a log that was rotated, or another session
 UNFINISHED = re.compile(r"\.(domepeeler|merge)-[^/]+")  # so a recorder or a tool names what it writes until it is whole
-BEGINS = b"trace 1\n", b"trace 2\n"
-MOST_HEAD = 64  # bytes of what is looked at
 SECONDS = 2.0  # that a file may take to be written
 NOTHING_THERE = [errno.ENOENT, errno.ENOTDIR, errno.ELOOP]  # behind a link
 LACKING = "a recorder was stopped while it wrote this, so a trace may be lacking: look whether it is, then remove this"
@@ -119,17 +117,3 @@ def looking_like(path: str, trace: str, more: str) -> tuple:
     except Unread:
         is_same = False
     return not is_there or bool(NUMBERED.fullmatch(more) and not is_same), RENAMED
-
-
-def head(path: str) -> bytes | None:
-    """The first bytes of a regular file; none where it can't be read."""
-    try:
-        descriptor = os.open(path, os.O_RDONLY | os.O_NONBLOCK | os.O_CLOEXEC)
-    except OSError:
-        return None
-    try:
-        return os.pread(descriptor, MOST_HEAD, 0) if stat.S_ISREG(os.fstat(descriptor).st_mode) else b""
-    except OSError:
-        return None
-    finally:
-        os.close(descriptor)
