@@ -974,6 +974,26 @@ def left_over(tally: Tally, program: str, folder: str) -> None:
             Path(place, "x.trace").unlink()
             alone = judge(program, ["--json", place])
             tally.check(f"left over: {name} alone", alone.status == 2 and json.loads(alone.out)["error"] == words, alone)
+    for name, text, beside, is_told in (("session", A_TRACE, "3\n", True), ("night.txt", "trace 2\nreplicas 2\n0 ins a 0 : a\n1 view :\n", "4\n", True), (
+            "0.log", "trace 1\nreplicas 2\n0 ins a 0 : a\n0 recv 1 1\n", "4\n", False), (
+            "1.log", "trace 1\nreplicas 2\n", "2\n", False), ("small", A_TRACE, "3\nsmall\n", False), (
+            "notes", "of x\n", "1\n", False), ("page", A_TRACE, None, False), ("empty", "trace 1\nreplicas 1\n", "2\n", True)):
+        place = Path(tempfile.mkdtemp(dir=folder))
+        (place / "x.trace").write_text(A_TRACE)
+        (place / name).write_text(text)
+        if beside:
+            (place / f"{name}.lines").write_text(beside)
+        got = judge(program, ["--json", str(place)])
+        rows = {Path(row["file"]).name: row.get("error") for row in map(json.loads, got.out.decode().splitlines())}
+        tally.check(f"left over: {name} with its lines beside it", (got.status, rows) == ((2, {"x.trace": None, name: PASSED_OVER}) if is_told else
+                    (0, {"x.trace": None})), got)
+    for name, side, beside in ("G.TRACE", "G.TRACE.LINES", "3\n"), ("G.trace", "G.trace.lines", "\ufeff3\n"), ("G.trace", "G.trace.lines", ""):
+        place = Path(tempfile.mkdtemp(dir=folder))
+        (place / name).write_text(A_TRACE)
+        (place / side).write_text(f"{beside}refused a call was refused, so what it says is not recorded: no replica 7\n")
+        got, told = judge(program, ["--json", str(place)]), run(str(ROOT / "tools" / "explain"), ["--program", program, str(place / name)])
+        tally.check(f"left over: refused in {side}, {beside!r}", got.status == told.status == 2 and json.loads(got.out)["verdict"] == "failed" and b"no replica 7" in got.out
+                    and told.out.startswith(b"accepted, but this is no pass: a call was refused"), (got, told))
     place = Path(tempfile.mkdtemp(dir=folder))
     (place / "x.trace").write_text(A_TRACE)
     (place / ".domepeeler-5").write_text(A_TRACE)

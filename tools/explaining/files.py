@@ -115,10 +115,13 @@ def before(descriptor: int, path: str) -> Before:
 
 
 def name_beside(path: str) -> str:
-    """The name of the file beside a trace; of a link without one it is that beside the file which the link leads to."""
-    if os.path.islink(path) and not os.path.lexists(path + SIDE):
-        return os.path.realpath(path) + SIDE
-    return path + SIDE
+    """The name of the file beside a trace, in small letters or capitals; of a link without one it is that beside the file which the link leads
+    to."""
+    for name in (path, os.path.realpath(path)) if os.path.islink(path) else (path,):
+        for side in name + SIDE, name + SIDE.upper():
+            if os.path.lexists(side):
+                return side
+    return os.path.realpath(path) + SIDE if os.path.islink(path) else path + SIDE
 
 
 def side_of(path: str) -> Side:

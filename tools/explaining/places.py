@@ -75,10 +75,12 @@ def printable(text: bytes) -> str:
 
 def lines_beside(trace: bytes, side: Side) -> list:
     """The lines of the file beside the trace, behind its first; none of another trace's. The last one may have been cut, if it has no
-    end; but that calls were refused is believed without one. No recorder writes more than two for each line of the trace, and some: what
+    end; but that calls were refused is believed without one, and where the first line is no count. No recorder writes more than two for each line of the trace, and some: what
     stands behind these is not looked at."""
     *lines, last = (side.content or b"").split(b"\n", 2 * trace.count(b"\n") + MOST_MARKS)
     lines += [last] if REFUSED.fullmatch(last) else []
+    if lines and not lines[0].strip().isdigit():
+        return list(filter(REFUSED.fullmatch, lines))
     return lines[1:] if lines and lines[0].strip() == b"%d" % trace.count(b"\n") else []
 
 
