@@ -16,7 +16,7 @@
 //! recording.assert_accepted();                  // in a test: asks the program, and panics with an explanation or warnings; or
 //! recording.save("session.trace")?;             // the trace as a file, for tools/explain
 //! println!("{}", recording.verdict().unwrap()); // asks the program: what it says, as an enum
-//! println!("{}", recording.judge().unwrap());   // its report as JSON, with warnings
+//! println!("{}", recording.judge().unwrap());   // its report as JSON, with warnings: look at it, as it never fails by itself
 //! println!("{}", recording.explain().unwrap()); // what that means, in words
 //! ```
 //!
@@ -329,6 +329,37 @@ impl Refusals {
         });
         let open = self.open.values().take(1).map(|(_, why)| format!("a call was refused, and what it says never came: {why}"));
         first.chain(open).collect()
+    }
+}
+
+/// What the program or the tool answers, as text: a `str`, whatever the verdict is. A test that doesn't look at it passes, so compilers warn of that.
+#[derive(Clone, PartialEq, Eq)]
+#[must_use = "it says whether the recording is right, and a test that doesn't look at it passes: end with assert_accepted()"]
+pub struct Answer(String);
+
+impl std::ops::Deref for Answer {
+    type Target = str;
+
+    fn deref(&self) -> &str {
+        &self.0
+    }
+}
+
+impl Display for Answer {
+    fn fmt(&self, f: &mut fmt::Formatter) -> fmt::Result {
+        f.pad(&self.0)
+    }
+}
+
+impl fmt::Debug for Answer {
+    fn fmt(&self, f: &mut fmt::Formatter) -> fmt::Result {
+        fmt::Debug::fmt(&self.0, f)
+    }
+}
+
+impl From<Answer> for String {
+    fn from(answer: Answer) -> String {
+        answer.0
     }
 }
 
@@ -721,13 +752,13 @@ impl Recording {
 
     /// The program's report on this recording, as JSON. It has one more key, `warnings`: where the verdict is accepted, or weak holds, a list
     /// of what that may hide, and else whether calls were refused. The program is that of $DOMEPEELER, or `domepeeler`.
-    pub fn judge(&self) -> Result<String, String> {
+    pub fn judge(&self) -> Result<Answer, String> {
         self.judge_by(&named("DOMEPEELER", "domepeeler"))
     }
 
     /// The report of the program at this path.
-    pub fn judge_by(&self, program: &str) -> Result<String, String> {
-        self.heard(self.judged_by(program))
+    pub fn judge_by(&self, program: &str) -> Result<Answer, String> {
+        self.heard(self.judged_by(program)).map(Answer)
     }
 
     /// What was answered of the recording, which somebody has by that; or why not.
@@ -881,18 +912,18 @@ impl Recording {
 
     /// What the report means, in words, with the lines of your code, and at the end the ids of the numbered names and the notes. The
     /// tool is that of $DOMEPEELER_EXPLAIN, or `domepeeler-explain`, beside the program of $DOMEPEELER or on the PATH.
-    pub fn explain(&self) -> Result<String, String> {
+    pub fn explain(&self) -> Result<Answer, String> {
         self.explain_by(&explainer())
     }
 
     /// The same where the editor promises the weak list specification alone: it says first where that holds, and what comes with it.
-    pub fn explain_weak(&self) -> Result<String, String> {
-        self.explained(&explainer(), &["--weak"])
+    pub fn explain_weak(&self) -> Result<Answer, String> {
+        self.explained(&explainer(), &["--weak"]).map(Answer)
     }
 
     /// The words of the tool at this path.
-    pub fn explain_by(&self, explainer: &str) -> Result<String, String> {
-        self.explained(explainer, &[])
+    pub fn explain_by(&self, explainer: &str) -> Result<Answer, String> {
+        self.explained(explainer, &[]).map(Answer)
     }
 
     fn explained(&self, explainer: &str, goal: &[&str]) -> Result<String, String> {

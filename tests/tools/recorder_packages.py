@@ -1092,8 +1092,8 @@ fn main() {{
         recording.delete(0, &name, none).unwrap();
     }}
     recording.insert(0, "{LONG_ID}/12", 0, none).unwrap();
-    let verdict = |report: String| report.split("\\"verdict\\":\\"").nth(1).unwrap().split('"').next().unwrap().to_string();
-    println!("{{}} {{}}", verdict(recording.judge().unwrap()), verdict(recording.judge_by("domepeeler").unwrap()));
+    let verdict = |report: &str| report.split("\\"verdict\\":\\"").nth(1).unwrap().split('"').next().unwrap().to_string();
+    println!("{{}} {{}}", verdict(&recording.judge().unwrap()), verdict(&recording.judge_by("domepeeler").unwrap()));
     println!("{{}}", recording.explain().unwrap());
     println!("{{}}", Recording::new(1).unwrap().explain().unwrap());
     for tool in [&std::env::args().nth(1).unwrap(), "nowhere", "false"] {{

@@ -2819,9 +2819,9 @@ fn saved() {{
 #[test]
 fn judged() {{
     let recordings = [reading(&["judged"]), reading(&["judged"]), reading(&["judged"])];
-    recordings[0].judge().unwrap();
+    let _ = recordings[0].judge().unwrap();
     assert!(recordings[1].verdict().is_ok());
-    recordings[2].explain().unwrap();
+    let _ = recordings[2].explain().unwrap();
     fails();
 }}
 
@@ -2937,7 +2937,7 @@ fn bad_forgotten() {{
 #[test]
 fn bad_later() {{
     let mut recording = reading(&[]);
-    recording.judge().unwrap();
+    let _ = recording.judge().unwrap();
     recording.read(0, &["lost"]).unwrap();
 }}
 
@@ -2992,9 +2992,9 @@ fn bad_two() {{
 fn right_ways() {{
     reading(&[]).assert_accepted();
     reading(&[]).assert_weak();
-    reading(&["lost"]).judge().unwrap();
+    let _ = reading(&["lost"]).judge().unwrap();
     assert!(reading(&["lost"]).verdict().is_ok());
-    reading(&["lost"]).explain().unwrap();
+    let _ = reading(&["lost"]).explain().unwrap();
     reading(&["lost"]).save("right.trace").unwrap();
     assert!(reading(&["lost"]).text().ends_with(": lost\n"));
     drop(Recording::new(3));
@@ -3044,6 +3044,22 @@ def check_dropped(tally: Tally, program: str, folder: Path) -> None:
     unused = subprocess.run(["rustc", "--edition", "2021", "-A", "unused_imports", "-o", "unused", "unused.rs"], cwd=place, capture_output=True, text=True)
     tally.check("Rust, dropped: the compiler warns of a verdict that nobody looks at", unused.returncode == 0 and
                 "it says whether the recording is right" in unused.stderr, unused)
+    for call in "judge()", "explain()", "explain_weak()", 'judge_by("domepeeler")', 'explain_by("domepeeler-explain")':
+        (place / "unused.rs").write_text(DROPPED.partition("#[test]")[0] + f'fn main() {{\n    reading(&["lost"]).{call}.unwrap();\n}}\n')
+        unused = subprocess.run(["rustc", "--edition", "2021", "-A", "unused_imports", "-o", "unused", "unused.rs"], cwd=place, capture_output=True, text=True)
+        tally.check(f"Rust, dropped: the compiler warns where nobody looks at the answer of {call}", unused.returncode == 0 and
+                    "and a test that doesn't look at it passes: end with assert_accepted()" in unused.stderr, unused)
+    (place / "used.rs").write_text(DROPPED.partition("#[test]")[0] + '''fn main() -> Result<(), String> {
+    let recording = reading(&["lost"]);
+    let (report, same) = (recording.judge()?, recording.judge()?);
+    let text: String = recording.judge()?.into();
+    assert!(report.contains("contents") && report == same && *report == *text && format!("{report}{report:?}") == format!("{text}{text:?}"));
+    Ok(())
+}
+''')
+    used = subprocess.run(["sh", "-c", "rustc --edition 2021 -A unused_imports -D unused_must_use -o used used.rs && ./used"], cwd=place, capture_output=True, text=True,
+                          env={**os.environ, "DOMEPEELER": program})
+    tally.check("Rust, dropped: an answer is used as text", used.returncode == 0, used)
     for name, (words, failed) in DROPPED_TOLD.items():
         told = done.stdout.partition(f"---- bad_{name} stdout ----\n")[2].partition("\n----")[0]
         tally.check(f"Rust, dropped: {name}", f":\n{words}: end with recording.assert_accepted()" in told and
