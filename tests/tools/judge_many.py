@@ -329,7 +329,7 @@ def in_github(tally: Tally, project: str, path: str, step: str) -> None:
         file = f"recordings/{name}"
         tally.check(f"CI: GitHub: {name}", line.startswith(f"::error file={file},title={file}%3A {kind}::{begins}"), line)
         tally.check(f"CI: GitHub: {name} is explained", f"\n{file}: {begins}" in f"\n{done.stdout}", done.stdout)
-    kept = {name for number in range(1, 6) for name in (f"{number}.html", f"{number}.trace")} | {"junit.xml", ".made"}
+    kept = {name for number in range(1, 6) for name in (f"{number}.html", f"{number}.trace", f"{number}.trace.lines")} | {"junit.xml", ".made"}
     tally.check("CI: GitHub: five failures, and what is kept", len(lines) == 5 and set(os.listdir(f"{project}/judged")) == kept,
                 (lines, os.listdir(f"{project}/judged")))
     tally.check("CI: GitHub: the first page is of the smallest", "recordings/lost.trace" in Path(project, "judged/1.html").read_text())
@@ -344,7 +344,7 @@ def in_gitlab(tally: Tally, project: str, path: str, step: str) -> None:
     wanted = [("recordings/b/unread.trace: unread", "https://gitlab.example/jobs/7"),
               ("recordings/lost.trace: contents", "https://gitlab.example/jobs/7/artifacts/file/judged/2.html")]
     tally.check("CI: GitLab: its links", [(link["label"], link["url"]) for link in links] == wanted, links)
-    kept = {"2.html", "2.trace", "junit.xml", "annotations.json", ".made"}
+    kept = {"2.html", "2.trace", "2.trace.lines", "junit.xml", "annotations.json", ".made"}
     tally.check("CI: GitLab: what is kept", set(os.listdir(f"{project}/judged")) == kept, os.listdir(f"{project}/judged"))
     told = "2 not accepted: judged/junit.xml has them all, and judged/2.html is the page of the first that has one\n"
     tally.check("CI: GitLab: the page that is named", done.stdout.endswith(told), done.stdout[-300:])
