@@ -469,7 +469,7 @@ WORDS = [
      "If the editor decides by numbers (a clock, ids) which of two inserts at one place comes first, look at theirs: a stands behind b, which replica 0 had already. The number that a has "
      "must be greater than that of b; perhaps it is not. Usual causes: the clock does not advance with each insert; ids are compared as text, so 10 comes before 9.|"),
     ("an own deleted element that comes back, and a list that heals", 2, "0 ins a 0 : a|1 ins r 0 : r|1 del r :|1 recv 0 1|1 read : r|1 read : a", "Where to look|"
-     "When the insert of a by 0.1 (line 3) came, r, which replica 1 had deleted itself (1.2 (line 5)), came back, and a is not there: perhaps that delete now hits it. Look at how the "
+     "When the insert of a by 0.1 (line 3) came in line 6, r came back, which replica 1 had deleted itself by 1.2 (line 5), and a is not there: perhaps that delete now hits it. Look at how the "
      "replica's own changes that are still on their way are adjusted for what arrives, and at how it takes them back and applies them anew, if it does.|"),
     ("a wrong list that heals", 2, "0 ins a 0 : a|1 recv 0 1|1 read :|1 read : a", "Later replica 1 reads another list in 1.2 (line 6) than in 1.1 (line 5), though it received and changed nothing "
      "between. Something that is not recorded did that: behind a server, perhaps its answer to the replica's own change. Then server and replica make different things of one change: look "
@@ -1671,6 +1671,20 @@ def kinds(tally: Tally, program: str, folder: str) -> None:
     for kind in "neighbours", "positions":
         told = explain(program, ["--editor", kind, str(path)]).out.decode()
         tally.check(f"kinds: {kind}: a second delete", (nothing in told) == (kind == "positions") and ("deleted b instead of a" in told) == (kind == "neighbours"), told)
+    path.write_text(text_of(2, "0 ins t 0 : t|1 recv 0 1|1 ins s 0 : s t|1 ins x 0 : x s t|0 ins n 0 : n t|0 recv 1 2|0 read : n x s t|1 recv 0 2|1 read : x n s t"))
+    inside = "1.3 (line 11) shows [n] between [x] and [s], though [x] was put directly before [s] by 1.2 (line 6), which did not know of it. In a tree"
+    for kind in "neighbours", "tree":
+        told = explain(program, ["--editor", kind, str(path)]).out.decode()
+        tally.check(f"kinds: {kind}: what stands inside", (f"Where to look\n  {inside}" in told) == (kind == "tree") and ("Children of one parent must stand in one order" in told) == (
+            kind == "tree"), told)
+    path.write_text(text_of(2, "0 ins a 0 : a|1 recv 0 1|1 ins b 1 : a b|1 del b : a|0 ins c 1 : a c|1 recv 0 2|1 read : a b c"))
+    told = explain(program, ["--editor", "neighbours", str(path)]).out.decode()
+    tally.check("kinds: an own deleted element that comes back beside another", "Look at what the insert of c does there to the elements beside it: is a run (block) of them split" in told
+                and "in line 8, b came back, which replica 1 had deleted itself by 1.2 (line 6)" in told, told)
+    path.write_text(text_of(1, "0 ins a 0 : a|0 ins b 0 : a b"))
+    for kind, wanted in ("neighbours", "If the editor decides by numbers"), ("tree", "Look at where a new child is put: b stands behind a"), ("identifiers", "Print the position"), ("positions", "Look at how"):
+        first = explain(program, ["--editor", kind, str(path)]).out.decode().partition("Where to look\n  ")[2]
+        tally.check(f"kinds: {kind}: a position", first.startswith(wanted), first)
     path.write_text(text_of(1, "0 ins a 0 : a"))
     tally.check("kinds: nothing of an accepted trace", hint not in explain(program, [str(path)]).out)
 

@@ -599,22 +599,27 @@ def identifiers(insert: Operation, before: list, behind: list) -> list:
 
 
 def put_inside(evidence: Evidence) -> list:
-    """In a tree, of what came last: that it stands between two elements of which one was put directly beside the other without knowing of it."""
+    """In a tree, of what came last: that it stands between two elements of which one was put directly beside the other, where that was not the
+    place of what came, and neither author knew of the other's."""
     if evidence.kind != TREE or not evidence.arrivals:
         return []
     receipt, new = evidence.arrivals[-1]
     operation = next((one for one in evidence.recording.streams[receipt.replica][receipt.before:] if one.kind != "view" and one.line <= evidence.last_line), None)
     shown = operation.response if operation is not None and operation.has_seen(new) else []
-    place = shown.index(new.element) if new.element in shown else 0
-    if not 0 < place < len(shown) - 1:
+    places = {name: place for place, name in enumerate(shown)}
+    own = [name for name in neighbours(new) if name in places]
+    if new.element not in places:
         return []
-    left, right = shown[place - 1], shown[place + 1]
-    for name, beside, side in (left, right, 1), (right, left, 0):
+    found = []
+    for name, place in places.items():
         insert = evidence.recording.inserts[name][0]
-        if neighbours(insert)[side] == beside and not new.has_seen(insert) and not insert.has_seen(new):
-            return [Cause("inside", INSIDE.format(operation=at(operation), new=new.element, left=left, right=right, one=name, side="before" if side else "behind", beside=beside,
-                                                  insert=at(insert)))]
-    return []
+        for side, beside in enumerate(neighbours(insert)):
+            first, last = sorted((place, places.get(beside, place)))
+            is_between = first < places[new.element] < last and not any(first <= places[one] <= last for one in own)
+            if is_between and not new.has_seen(insert) and not insert.has_seen(new):
+                found.append((last - first, place, INSIDE.format(operation=at(operation), new=new.element, left=shown[first], right=shown[last], one=name,
+                                                                 side="before" if side else "behind", beside=beside, insert=at(insert))))
+    return [Cause("inside", told) for *_, told in sorted(found)[:1]]
 
 
 def came_between(evidence: Evidence) -> list:
