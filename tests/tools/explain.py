@@ -219,11 +219,15 @@ WORDS = [
      stop(9, "replica 0 inserts d", 12, 10, 6)),
     ("a replica turns round what it reads, and has received nothing", 2, "0 ins a 0 : a|1 ins b 0 : b|0 recv 1 1|0 read : a b|1 recv 0 1|1 read : b a|1 read : a b", "Where to look|"
      "Replica 1 shows b before a in 1.2 (line 8), and a before b in 1.3 (line 9), though it received and changed nothing between. Something that is not recorded did that: behind a "
-     "server, perhaps its answer to the replica's own change. Then server and replica make different things of one change: look at which changes each of them adjusts it for. Client "
-     "and server must adjust alike, and each change once."),
+     "server or a relay, perhaps its answer to the replica's own change. Then one of the two lists is wrong: that of 1.2 (line 8), made when 0.1 came in line 7, or the one behind the "
+     "answer. Compare how an arriving change and the replica's own that are still on their way are moved over each other with how it is done for the answer, and on the server, if it "
+     "adjusts positions: which changes, each once, and which one comes first at an equal position."),
+    ("an insert beside what came since the last one", 2, "1 ins c 0 : c|0 ins a 0 : a|0 recv 1 1|0 read : a c|0 ins b 1 : a c b",
+     "found at: position 2||Where to look|c came to replica 0 in line 5, beside a, which the replica had inserted "
+     "itself before by 0.1 (line 4). Does the editor keep a place, or bounds, from its last insert? Then what arrives there must change these." + stop(7, "replica 0 inserts b", 5)),
     ("a read that has other elements, where nothing was received", 2, "0 ins a 0 : a|0 ins b 1 : a b|1 recv 0 2|1 read : a b|0 del a : b|1 recv 0 3|1 read : b|1 read : a", "Where to look|"
      "Replica 1 answered what is right in 1.2 (line 9), and has received nothing since. Look at what replica 1 itself does between the two; behind a server, at what its answer to the "
-     "replica's own change does there." + stop(10, "replica 1 reads the list")),
+     "replica's own change does there." + stop(10, "replica 1 reads the list", 8)),
     ("a beginning that shows something else", 3, f"{THREE_WAY}|1 recv 0 2|1 recv 2 1|1 read : a b",
      "refused 3: three responses can't be right together. Any two of them can. This is what went wrong first, within the "
      "first 11 lines: begin with it. The verdict on the whole trace is `refused 2`, told at the end.||"

@@ -123,6 +123,8 @@ NUMBERS = ("If the editor decides by numbers (a clock, ids) which of two inserts
 NUMBERS_TREE = ("Look at where a new child is put: {element} stands behind {passed}, which replica {replica} had already. Perhaps its parent is not the one that was meant; or the place beside a "
                 "sibling, with all that hangs on that, is not found; or siblings stand in the order of numbers, and the one of {element} is not greater than {theirs} (usual causes: "
                 "{causes}ids are compared as text).")
+KEPT_PLACE = ("{came} came to replica {replica} in line {line}, beside {own}, which the replica had inserted itself before by {insert}. Does the editor keep a place, or bounds, from its last "
+              "insert? Then what arrives there must change these.")
 CLOCK = {True: "the clock does not advance with each insert; ", False: "the clock does not advance when changes arrive; the replica's number is compared before the clock; "}
 BESIDE_DELETED = ("If inserts find their place by a neighbour, look at inserts beside deleted elements: {which}. If replicas throw "
                   "deleted elements away, nothing says then where the insert belongs; if they keep them, the search for its place must treat them like "
@@ -160,7 +162,9 @@ BEHIND_DELETED = " Look also at inserts beside deleted elements: where [{behind}
 CONCURRENT = ("Look at the order of concurrent inserts: {first} and {then} were inserted{place} without knowing of each other, and were shown "
               "in two different orders.{rule}{print}")
 RULE = (" Use a rule that gives the same order everywhere (such as the replicas' numbers), also in special cases, as for appending; not the order in which each replica received them.")
-RULES = {"": RULE, NEIGHBOURS: RULE, POSITIONS: RULE, IDENTIFIERS: "",
+RULES = {"": RULE, NEIGHBOURS: RULE, IDENTIFIERS: "",
+         POSITIONS: " At an equal position the same one must come first on each client, and on the server if it adjusts positions: look at which one does, for what arrives and for the "
+                    "replica's own changes that are still on their way.",
          TREE: " Children of one parent must stand in one order everywhere (such as by the replicas' numbers), and each with all that hangs on it."}
 PRINT = {  # what tells a fault of what is sent from one of how it is applied
     "": "", POSITIONS: " Client and server must adjust alike, and each change once.",
@@ -192,6 +196,9 @@ ANOTHER_PLACE = ("So the insert's change says another place than the one where t
 MOVED_THEN = "Look first at what is done in line {receipt}: at how the replica's own changes that are still on their way are adjusted for what arrives, and at how it takes them back and applies them anew, if it does"
 ALONE_BY = {"": ANOTHER_PLACE + " Or the insert was moved in line {receipt}, behind a server: then look at how the replica's own changes that are still on their way are adjusted for what arrives.",
             NEIGHBOURS: ANOTHER_PLACE, TREE: ANOTHER_PLACE, IDENTIFIERS: ANOTHER_PLACE, POSITIONS: MOVED_THEN + "; and then at what the insert's change carries."}
+ONE_IS_WRONG = ("behind a server or a relay, perhaps its answer to the replica's own change. Then one of the two lists is wrong: that of {before}{made}, or the one behind the answer. "
+                "Compare how an arriving change and the replica's own that are still on their way are moved over each other with how it is done for the answer{server}: which changes, each "
+                "once, and which one comes first at an equal position.")
 TURNED_BY_ITSELF = ("Replica {replica} shows {two} before {one} in {before}, and {one} before {two} in {after}, though it received and changed nothing between. Something that is not "
                     "recorded did that: ")
 MOVED_INSERT = ("If the editor sends positions, the position of {element} was perhaps not adjusted for {changes}, which replica {replica} "
@@ -537,23 +544,32 @@ def of_position(evidence: Evidence) -> list:
     first = reordered(evidence)
     if first:
         return [*first, Cause("mapping", otherwise("If that is not the cause", mapped))]
+    kept = kept_place(evidence)
     others = [other for other in response if other != name]
     at_most = min(operation.at, len(others))
     sorted_by = identifiers(operation, others[max(at_most - 1, 0):at_most], others[at_most:at_most + 1])
     if asked < 0 or name not in response or response.index(name) < asked:
-        return [Cause("mapping", mapped), *sorted_by]
+        return [*kept, Cause("mapping", mapped), *sorted_by]
     passed = response[asked:response.index(name)]
     theirs = "theirs" if passed[1:] else f"that of {passed[0]}"
     are_own = all(insert.replica == operation.replica for one in passed for insert in evidence.recording.inserts.get(one, []))
     gone = beside_gone(evidence, passed[0])
     if has_delete and is_younger_by_name(name, passed):
-        return [*gone, Cause("mapping", mapped), *sorted_by]
+        return [*gone, *kept, Cause("mapping", mapped), *sorted_by]
     numbers = Cause("numbers", (NUMBERS_TREE if evidence.kind == TREE else NUMBERS).format(element=name, passed=listed(passed, MOST_TOLD), replica=operation.replica, theirs=theirs, causes=CLOCK[are_own]))
-    told = [cause for cause in [*gone, numbers, *sorted_by] if is_possible(cause.name, evidence.kind)]
+    told = [cause for cause in [*gone, *kept, numbers, *sorted_by] if is_possible(cause.name, evidence.kind)]
     if not told:
         return [Cause("mapping", mapped)]
     instead = "If that is not the cause" if evidence.kind else "If neither fits your editor" if sorted_by else "If that does not fit your editor"
     return [*told, Cause("mapping", otherwise(instead, mapped))]
+
+
+def kept_place(evidence: Evidence) -> list:
+    """Of a wrong position, that an element came to the replica since its last insert, and stands beside what that inserted, where the new one was to stand."""
+    if evidence.kept_place is None:
+        return []
+    receipt, name, last = evidence.kept_place
+    return [Cause("kept place", KEPT_PLACE.format(came=name, replica=receipt.replica, line=receipt.line, own=last.element, insert=at(last)))]
 
 
 def beside_gone(evidence: Evidence, passed: str) -> list:
@@ -755,7 +771,16 @@ def turned_by_itself(evidence: Evidence) -> list:
     if evidence.turned_by_itself is None:
         return []
     one, two, before, after = evidence.turned_by_itself
-    return [Cause("turned by itself", TURNED_BY_ITSELF.format(replica=after.replica, one=one, two=two, before=at(before), after=at(after)) + unrecorded(evidence))]
+    return [Cause("turned by itself", TURNED_BY_ITSELF.format(replica=after.replica, one=one, two=two, before=at(before), after=at(after)) + turned_then(evidence, before))]
+
+
+def turned_then(evidence: Evidence, before: Operation) -> str:
+    """What turned two elements round though nothing came."""
+    if not is_possible("positions", evidence.kind):
+        return BY_ITSELF
+    receipts = [receipt for receipt in evidence.recording.receipts[before.replica] if receipt.line < before.line]
+    made = f", made when {receipts[-1].seen.name} came in line {receipts[-1].line}" if receipts else ""
+    return ONE_IS_WRONG.format(before=at(before), made=made, server=", and on the server, if it adjusts positions")
 
 
 def settled_by_another(evidence: Evidence, first: Operation, then: Operation) -> list:

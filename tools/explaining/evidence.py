@@ -177,6 +177,22 @@ class Evidence:
         return min(found, key=lambda pair: pair[1].line, default=None)
 
     @cached_property
+    def kept_place(self) -> tuple | None:
+        """Of a wrong position, where the replica's last insert stands at the place that was asked for: the receipt of an element beside it that came
+        since, that element, and that insert."""
+        operation = self.operations[0]
+        last = next((one for one in reversed(self.recording.streams[operation.replica][:operation.n - 1]) if one.kind == "ins"), None)
+        others = [name for name in operation.response if name != operation.element]
+        at_most = min(operation.at, len(others))
+        around = others[max(at_most - 1, 0):at_most + 1]
+        for name in around if last is not None and last.element in around else []:
+            insert = next(iter(self.recording.inserts.get(name, [])), last)
+            receipt = self.recording.arrival(insert, operation.replica) if insert.replica != operation.replica and not last.has_seen(insert) else None
+            if receipt is not None and receipt.line < operation.line:
+                return receipt, name, last
+        return None
+
+    @cached_property
     def shown_up_to_last(self) -> list:
         """The operations up to the last line that the verdict is on."""
         return [entry for entry in self.recording.entries if isinstance(entry, Operation) and entry.line <= self.last_line]
