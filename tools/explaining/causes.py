@@ -33,6 +33,9 @@ NOT_APPLIED = ("It looks as if {changes} {were} not applied at replica {replica}
                "change is applied.{other}")
 OTHER_DELETE = (" Or it deleted another element, one that was already deleted there: look at how a replica that applies a delete finds the element (is the "
                 "whole id compared?).")
+WAITED_IN_PART = ("{first} {was} done at replica {replica}, but not {then}, which {were} made directly behind. If one change of your editor deletes all of these, it looks as if it was "
+                  "applied in part: look at what a replica does where one of several elements is gone already, or has not come yet; and, if the change waited, at whether it is asked again "
+                  "what is lacking when one thing comes.")
 IN_PART = ("{first} and {then} were made one after the other, and came to replica {replica} together; there {element} was deleted already, by {gone}, and {surplus} "
            "{is_} still shown. If one change of your editor deletes both, it looks as if it was applied in part: look at what a replica does where one of "
            "several elements is gone already; it must go on with the others.")
@@ -103,7 +106,7 @@ MAPPING = ("Look at how the position that a user sees is mapped to a place in th
            "recorder writes the position that was asked for.")
 ADJUSTS = "how what comes is adjusted there for the replica's own changes that are still on their way, and these for what comes."
 OWN_BACK_AGAIN = "When {came} came{line}, {back} came back, which replica {replica} had deleted itself by {delete}{lost}. Look at "
-OWN_ADJUSTED = "how the replica's own changes that are still on their way are adjusted for what arrives, and at how it takes them back and applies them anew, if it does."
+OWN_ADJUSTED = "how the replica's own changes that are still on their way are adjusted for what arrives (each of two over the other as that was before), and at how it takes them back and applies them anew, if it does."
 SHOWN_AGAIN = ("what applies that: is an element that is marked as deleted shown again, made anew by an insert that arrives a second time, or brought back by a state that "
                "is older than the delete?")
 SPLIT = ("what {new} does there to the elements beside it: is a run (block) of them split, or made anew, without the mark that they are deleted? Else look for a state that is older than "
@@ -129,6 +132,8 @@ CLOCK = {True: "the clock does not advance with each insert; ", False: "the cloc
 BESIDE_DELETED = ("If inserts find their place by a neighbour, look at inserts beside deleted elements: {which}. If replicas throw "
                   "deleted elements away, nothing says then where the insert belongs; if they keep them, the search for its place must treat them like "
                   "elements that are shown.")
+OWN_PLACE = ("When replica {replica} inserted [{element}] (line {line}), {gone} had been deleted at its place. If deleted elements are kept, look at where its own list has the new one among "
+             "them: a local insert must find its place by the same search as an incoming one.")
 ARRIVED_BESIDE = "{element} came to replica {replica} in line {line}, where its {neighbours} {gone} had been deleted"
 HIDDEN_BESIDE = "{element} was put beside {gone}, which {were} deleted before {operation}"
 SEVERAL_DELETED = ("Look at positions beside deleted elements: any {fewer} of {named} fit together, all {k} don't; perhaps an insert lost its place "
@@ -193,7 +198,7 @@ SHOWN_ALONE = ("Replica {replica}, which inserted [{new}] ({insert}, line {line}
                "on it shows it {other_side} [{old}], as the others do. ")
 ANOTHER_PLACE = ("So the insert's change says another place than the one where the replica itself shows it: look at how a local insert is put into the list, and at what its change "
                  "carries.")
-MOVED_THEN = "Look first at what is done in line {receipt}: at how the replica's own changes that are still on their way are adjusted for what arrives, and at how it takes them back and applies them anew, if it does"
+MOVED_THEN = "Look first at what is done in line {receipt}: at how the replica's own changes that are still on their way are adjusted for what arrives (each of two over the other as that was before), and at how it takes them back and applies them anew, if it does"
 ALONE_BY = {"": ANOTHER_PLACE + " Or the insert was moved in line {receipt}, behind a server: then look at how the replica's own changes that are still on their way are adjusted for what arrives.",
             NEIGHBOURS: ANOTHER_PLACE, TREE: ANOTHER_PLACE, IDENTIFIERS: ANOTHER_PLACE, POSITIONS: MOVED_THEN + "; and then at what the insert's change carries."}
 ONE_IS_WRONG = ("behind a server or a relay, perhaps its answer to the replica's own change. Then one of the two lists is wrong: that of {before}{made}, or the one behind the answer. "
@@ -234,7 +239,7 @@ def of_contents(evidence: Evidence) -> list:
     if misnamed(evidence):
         return misnamed(evidence)
     found = [*own_back(evidence), *applied_twice(evidence), *in_part(evidence), *wrong_delete(evidence, evidence.operations[0]), *second_delete(evidence), *overtaken(evidence), *lost_neighbour(evidence)]
-    found += too_much(evidence) if not found else []
+    found += too_much(evidence) or waited_in_part(evidence) if not found else []
     more = unlike_receipts(evidence) if all(cause.name in ("lost neighbour", "applied in part") for cause in found) else []
     is_loss_first = is_loss_likelier(evidence, found or more)
     found += more
@@ -282,6 +287,20 @@ def in_part(evidence: Evidence) -> list:
         return []
     told = IN_PART.format(first=at(other), then=at(change), replica=evidence.operations[0].replica, element=other.element, gone=at(gone),
                           surplus=listed(evidence.surplus, MOST_TOLD), is_="are" if evidence.surplus[1:] else "is")
+    return [Cause("applied in part", told)]
+
+
+def waited_in_part(evidence: Evidence) -> list:
+    """Of deletes that were not applied, though those that their author made directly before them were."""
+    left_out, added = evidence.otherwise
+    if added or not left_out or any(change.kind != "del" for change in left_out):
+        return []
+    operation = evidence.operations[0]
+    others = [other for other in evidence.made_before(left_out[0]) if other not in left_out and evidence.is_new(other)][::-1]
+    if not others or any(change not in evidence.made_before(left_out[-1]) for change in left_out[:-1]):
+        return []
+    told = WAITED_IN_PART.format(first=listed(list(map(at, others)), MOST_TOLD), was="were" if others[1:] else "was", replica=operation.replica,
+                                 then=listed(list(map(at, left_out)), MOST_TOLD), were="were" if left_out[1:] else "was")
     return [Cause("applied in part", told)]
 
 
@@ -614,6 +633,14 @@ def identifiers(insert: Operation, before: list, behind: list) -> list:
     return [Cause("identifiers", IDENTIFIERS_OF.format(names=names, line=insert.line, element=insert.element))]
 
 
+def own_place(evidence: Evidence) -> list:
+    """Of an insert that was made where elements had been deleted: how its author placed it among these."""
+    if evidence.own_place is None or evidence.kind not in BY_ELEMENTS:
+        return []
+    insert, gone = evidence.own_place
+    return [Cause("own place", OWN_PLACE.format(replica=insert.replica, element=insert.element, line=insert.line, gone=listed(gone, MOST_TOLD)))]
+
+
 def put_inside(evidence: Evidence) -> list:
     """In a tree, of what came last: that it stands between two elements of which one was put directly beside the other, where that was not the
     place of what came, and neither author knew of the other's."""
@@ -694,7 +721,7 @@ def of_refusal(evidence: Evidence, weak: bool) -> list:
         is_told = evidence.between is not None or bool(concurrent[1:]) and not is_gone
         causes = [concurrent, beside_deleted(evidence, is_told)]
         is_deleted_first = evidence.lost_neighbours and not are_put_at_once(first, then) and not is_told and not evidence.is_fine_beside_deleted
-        return [*turned_by_itself(evidence), *lost(evidence), *reordered(evidence), *came_between(evidence), *put_inside(evidence), *sum(causes[::-1] if is_deleted_first else causes, []), sorted_alike(evidence), *moved_insert(moved)]
+        return [*turned_by_itself(evidence), *lost(evidence), *reordered(evidence), *came_between(evidence), *put_inside(evidence), *own_place(evidence), *sum(causes[::-1] if is_deleted_first else causes, []), sorted_alike(evidence), *moved_insert(moved)]
     later, old = (first, then) if first.has_seen(then) else (then, first)
     moved = moved_over(evidence)
     told = seen(evidence, later, old, not (weak and moved))

@@ -2,7 +2,7 @@
 from __future__ import annotations
 
 from .evidence import Evidence
-from .kinds import POSITIONS
+from .kinds import BY_ELEMENTS, POSITIONS
 from .recordings import FIRST_ENTRY, Operation, Receipt, Recording
 
 TITLE = "In a debugger"
@@ -99,9 +99,13 @@ def came_between(evidence: Evidence) -> Receipt | None:
 def told(evidence: Evidence, entry: Operation | Receipt, others: list) -> str:
     """Where to stop, in words."""
     before = ", ".join(f"line {other.line}" for other in others[:MOST_OTHERS])
-    then = f"; if nothing is wrong there, stop at {'another arrival' if len(others) == 1 else 'other arrivals'} ({before})" if others else ""
+    arrivals = ("another arrival", "other arrivals") if isinstance(entry, Receipt) else ("an arrival", "arrivals")
+    then = f"; if nothing is wrong there, stop at {arrivals[len(others) > 1]} ({before})" if others else ""
     if evidence.report["verdict"] == "contents" and evidence.undelivered:
         return followed(entry, evidence.operations[0].replica)
+    own = evidence.own_place if evidence.kind in BY_ELEMENTS else None
+    if own and own[0].line not in (entry.line, *(other.line for other in others)):
+        then += f"; or before line {own[0].line}, where {doing(own[0])}"
     return f"stop before line {entry.line} of the trace, where {doing(entry)}{then}."
 
 
