@@ -498,14 +498,14 @@ and takes time linear in the text."
               (domepeeler--some (domepeeler--warned-of-nothing warned) "delete" "of elements that no line inserts")
               (domepeeler--some (domepeeler--warned-past-end warned) "insert" "past the end of a list")))))
 
-(domepeeler--defun domepeeler-judge (recording &optional program weak)
+(domepeeler--defun domepeeler-judge (recording &optional program _weak)
   "The report of PROGRAM on RECORDING, as an alist.
-It has one more key, `warnings': where the verdict is accepted, or with
-WEAK where weak holds, a list of what that may hide, and else whether
-calls were refused.
+It has one more key, `warnings': where the verdict is accepted, or weak
+holds, with WEAK or without, a list of what that may hide, and else
+whether calls were refused.
 PROGRAM is by default that of the environment's DOMEPEELER, or \"domepeeler\"."
   (let* ((report (domepeeler--report recording program))
-         (is-passing (or (equal (alist-get 'verdict report) "accepted") (and weak (eq (alist-get 'weak report) t)))))
+         (is-passing (or (equal (alist-get 'verdict report) "accepted") (eq (alist-get 'weak report) t))))
     (append report (list (cons 'warnings (if is-passing (domepeeler-warnings recording) (domepeeler--refusals recording)))))))
 
 (defun domepeeler--report (recording program)

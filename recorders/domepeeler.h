@@ -13,11 +13,12 @@
  *         && domepeeler_view(recording, 0, list, 1)                  // replica 0 showed this part of its list
  *         && domepeeler_delivered(recording, lists, names, 2)        // by now all has arrived everywhere; both are empty
  *         && domepeeler_save(recording, "session.trace");            // the trace as a file, for tools/explain
- *     if (!is_recorded) puts(domepeeler_why(recording));
- *     char *report = domepeeler_judge(recording, NULL);              // asks the program: its report as JSON, with warnings, or NULL
- *     free(report);
- *     char *words = domepeeler_explain(recording, NULL);             // what that means, in words, or NULL
- *     free(words);
+ *     if (!is_recorded || !domepeeler_passes(recording, NULL)) {     // asks the program: accepted, and no warning?
+ *         puts(domepeeler_why(recording));
+ *         char *words = domepeeler_explain(recording, NULL);         // what that means, in words, or NULL
+ *         if (words) puts(words);
+ *         return 1;
+ *     }
  *     domepeeler_free(recording);
  *
  * Each call that a trace can't say answers 0 and leaves the recording as it was; domepeeler_why() then says why, and
@@ -26,7 +27,7 @@
  * recording, explained it, saved it or taken its text since something was recorded or refused.
  *
  * An editor with a server that orders changes (Jupiter and its kin) promises the weak list specification alone, and is right with
- * `refused 3` or more. For such a one ask, in the place of domepeeler_judge() and domepeeler_explain():
+ * `refused 3` or more. For such a one ask, in the place of domepeeler_passes() and domepeeler_explain():
  *
  *     if (!domepeeler_passes_weak(recording, NULL)) puts(domepeeler_why(recording)); // and domepeeler_explain_weak() explains
  *
@@ -1708,7 +1709,7 @@ static inline char *domepeeler_beside(struct domepeeler *d, int is_passing) {
 static inline char *domepeeler_judge_now(struct domepeeler *d, const char *program) {
     char *report = domepeeler_report(d, program);
     if (!report) return NULL;
-    char *warnings = domepeeler_beside(d, strstr(report, "\"verdict\":\"accepted\"") != NULL);
+    char *warnings = domepeeler_beside(d, strstr(report, "\"verdict\":\"accepted\"") || strstr(report, "\"weak\":true"));
     if (warnings) d->is_new = 0;
     if (warnings) return domepeeler_with_warnings(d, report, warnings);
     free(report);
@@ -1716,7 +1717,8 @@ static inline char *domepeeler_judge_now(struct domepeeler *d, const char *progr
     return NULL;
 }
 
-static inline unsigned domepeeler_passes_weak_now(struct domepeeler *d, const char *program) {
+/* Whether the recording passes: it is accepted, or with `is_weak` weak holds, and there is no warning. */
+static inline unsigned domepeeler_passes_now(struct domepeeler *d, const char *program, int is_weak) {
     if (!program) program = getenv("DOMEPEELER");
     if (!program || !*program) program = "domepeeler";
     const char *many[] = {program, "verdict", "-", NULL}, *few[] = {program, "verdict", "--workers", "1", "-", NULL};
@@ -1725,12 +1727,14 @@ static inline unsigned domepeeler_passes_weak_now(struct domepeeler *d, const ch
     if (!report) return 0;
     const char *verdict = strchr(report, '\n');
     if (verdict) d->is_new = 0;
-    unsigned holds = strstr(report, "\nweak yes\n") != NULL, is_weak_alone = strstr(report, "\nstrong no\n") != NULL;
+    unsigned is_accepted = verdict && strncmp(verdict, "\naccepted\n", 10) == 0;
+    unsigned holds = is_weak ? strstr(report, "\nweak yes\n") != NULL : is_accepted, is_weak_alone = !is_accepted;
     if (!verdict) domepeeler_fail(d, "%s printed a report without a verdict", program);
     else if (!holds) domepeeler_fail_by_line(d, verdict + 1);
     char *warnings = verdict ? domepeeler_beside(d, (int)holds) : NULL;
     free(report);
     if (warnings && *warnings) holds = domepeeler_fail_by_line(d, warnings);
+    if (verdict && !warnings) domepeeler_fail(d, "no memory");
     holds = holds && warnings;
     if (holds && is_weak_alone) domepeeler_fail(d, "weak holds, strong doesn't");
     free(warnings);
@@ -2126,8 +2130,8 @@ DOMEPEELER_CHECKED static inline char *domepeeler_warnings(struct domepeeler *d)
 }
 
 /* The report, as a line of JSON with its line feed, of the program on this recording; free() it. NULL where there is none. It has one more
- * key, `warnings`: a list of what an accepted verdict may hide; of any other it says no more than whether calls were refused. The program is
- * that of the environment's DOMEPEELER, or domepeeler, where NULL is given. */
+ * key, `warnings`: a list of what the verdict may hide where it is accepted, or weak holds; of any other it says no more than whether calls
+ * were refused. The program is that of the environment's DOMEPEELER, or domepeeler, where NULL is given. */
 DOMEPEELER_CHECKED static inline char *domepeeler_judge(struct domepeeler *d, const char *program) {
     if (!d) return NULL;
     domepeeler_enter(d, NULL, 0);
@@ -2136,13 +2140,22 @@ DOMEPEELER_CHECKED static inline char *domepeeler_judge(struct domepeeler *d, co
     return said;
 }
 
+/* Whether the recording passes: it is accepted, by the program's report, and no warning says what that may hide. Answers 1; else
+ * domepeeler_why() has the first warning, such as that a call was refused, the verdict, or why there is none. The program is as for
+ * domepeeler_judge(). */
+DOMEPEELER_CHECKED static inline unsigned domepeeler_passes(struct domepeeler *d, const char *program) {
+    if (!d) return 0;
+    domepeeler_enter(d, NULL, 0);
+    return domepeeler_leave(d, domepeeler_passes_now(d, program, 0));
+}
+
 /* Whether the recording passes where the editor promises the weak list specification alone: weak holds, by the program's report, and no
  * warning says what that may hide. Answers 1; else domepeeler_why() has the first warning, such as that a call was refused, the verdict, or
  * why there is none. The program is as for domepeeler_judge(). */
 DOMEPEELER_CHECKED static inline unsigned domepeeler_passes_weak(struct domepeeler *d, const char *program) {
     if (!d) return 0;
     domepeeler_enter(d, NULL, 0);
-    return domepeeler_leave(d, domepeeler_passes_weak_now(d, program));
+    return domepeeler_leave(d, domepeeler_passes_now(d, program, 1));
 }
 
 /* What the report on this recording means, in words, with the lines of your code, and at the end the ids of the numbered names, and the

@@ -14,6 +14,8 @@
 //     const { verdict, warnings } = await recording.judge() // asks the program
 //     if (verdict !== "accepted" || warnings.length) throw new Error(await recording.explain()) // which says it in words
 //
+// judge() answers, and never fails where the recording is wrong: a test that doesn't look at its answer passes.
+//
 // An editor with a server that orders changes (Jupiter and its kin) promises the weak list specification alone, and is right with
 // `refused 3` or more. For such a one let the test end so:
 //
@@ -333,11 +335,12 @@ export class Recording {
     return [...this.refusals(), ...found.map(withNearest)]
   }
 
-  /** A promise of the program's report on this recording, and as `warnings` what it may hide where it says `accepted`; with `weak`, where
-   * weak holds; and of any whether calls were refused. The program is the words that are given, that of $DOMEPEELER, or `domepeeler`. */
-  async judge(program = null, { weak = false } = {}) {
+  /** A promise of the program's report on this recording, and as `warnings` what it may hide where it says `accepted`, or that weak holds,
+   * asked for or not; and of any whether calls were refused. It answers, and never fails where the recording is wrong: look at the
+   * answer. The program is the words that are given, that of $DOMEPEELER, or `domepeeler`. */
+  async judge(program = null, _goal = {}) {
     const report = this.#report(await modules(), program)
-    const isPassing = report.verdict === "accepted" || (weak && report.weak === true)
+    const isPassing = report.verdict === "accepted" || report.weak === true
     return { ...report, warnings: isPassing ? await this.warnings() : this.refusals() }
   }
 

@@ -57,7 +57,8 @@ __tracebackhide__ = True  # pytest shows a refused call where the test makes it
 ONE_LOG = "one replica's log is no recording: merge the logs first"
 FORKED = "this process was forked, so it would record into a copy that nothing judges: let each process keep a log of its own, and merge them"
 COPIED = "this is a copy of a recording, and nothing judges what it gets: record into the one that the fixture began"
-FORKED_TOLD = "a forked process recorded into its copy of this recording, so what it says is not recorded"
+TOLD_OF_COPIES = ["", "a forked process recorded into its copy of this recording, so what it says is not recorded",
+                  "something was recorded into a copy of this recording, so what it says is not recorded"]
 NOT_STOPPED = "one replica's log can't be judged after each call, but only when the logs are merged"
 MOST_NOTES, MOST_LETTERS = 20, 200  # of a recording, and of a note
 MOST_DELIVERED = 100  # calls of `delivered` of which the tool is told
@@ -77,7 +78,10 @@ STATEMENT = re.compile(r"^(  stop before line (\d+) of the trace, .*?) In [A-Z][
 MOST_WARNED = 5  # deletes, or inserts, that are warned of one by one
 MOST_CHANGES = 3  # that are warned of one by one of those that a replica lacks, or has made nothing of
 
-_FORKS = mmap.mmap(-1, mmap.PAGESIZE)  # is shared with processes that are forked: a byte for some recordings, in which of whose copies they recorded
+# By process that began recordings, which alone sets bytes back: what it shares with those forked from it, a byte for some of its recordings, of
+# whether these recorded into a copy.
+_FORKS: Dict[int, mmap.mmap] = {os.getpid(): mmap.mmap(-1, mmap.PAGESIZE)}
+_NOT_COPIED, _FORK, _COPY = range(3)  # such a byte: nobody did, a forked process, or who holds another copy
 _begun = itertools.count()
 
 Clock = Union[Sequence[int], Mapping[int, int]]
@@ -178,8 +182,10 @@ class Recording:
         self._lock = threading.RLock()
         self._process = os.getpid()
         self._is_watched = self._is_copy = False  # whether something judges it, and will judge no copy; and whether it is such a copy
-        self._slot = next(_begun) % mmap.PAGESIZE  # of _FORKS
-        _FORKS[self._slot] = 0
+        self._begun_by, self._slot = os.getpid(), next(_begun) % mmap.PAGESIZE  # of _FORKS
+        if self._begun_by not in _FORKS:
+            _FORKS.setdefault(self._begun_by, mmap.mmap(-1, mmap.PAGESIZE))
+        _FORKS[self._begun_by][self._slot] = _NOT_COPIED
         if not _whole(replicas, 1, MOST_REPLICAS):
             raise Refused(f"replicas are 1 to {MOST_REPLICAS}, not {replicas}" if _is_int(replicas) else
                           _not_whole("number of replicas", replicas, 1, MOST_REPLICAS))
@@ -209,6 +215,9 @@ class Recording:
             raise Refused("a recording takes `weak` only with `stop`: else give it to `judge` and `explain`")
 
     def __getstate__(self) -> Dict[str, Any]:
+        context = sys.modules.get("multiprocessing.context")
+        if self._is_watched and context is not None and context.get_spawning_popen() is not None:  # for a process that shares nothing with this one
+            raise Refused(COPIED)
         return {**{name: value for name, value in vars(self).items() if name != "_lock"}, "_is_copy": self._is_watched}  # a copy has its own lock
 
     def __setstate__(self, state: Dict[str, Any]) -> None:
@@ -386,10 +395,10 @@ class Recording:
 
     @_alone
     def judge(self, program: Optional[Words] = None, weak: bool = False) -> Report:
-        """The program's report on this recording, and as `warnings` what it may hide where it says `accepted`; with `weak`, where weak
-        holds; and of any whether calls were refused. The program is the words that are given, that of $DOMEPEELER, or `domepeeler`."""
+        """The program's report on this recording, and as `warnings` what it may hide where it says `accepted`, or that weak holds,
+        asked for or not; and of any whether calls were refused. The program is the words that are given, that of $DOMEPEELER, or `domepeeler`."""
         report = Report(self._report(program))
-        is_passing = report["verdict"] == "accepted" or (weak and report.get("weak") is True)
+        is_passing = report["verdict"] == "accepted" or report.get("weak") is True
         report["warnings"] = self.warnings() if is_passing else self._refusals()
         return report
 
@@ -679,9 +688,10 @@ class Recording:
         """What a call that records answers. If it is refused, that is remembered: what it says is not recorded. At a limit the session ends
         and the caller knows it; and of what is not causal is known whether it comes later."""
         if self._process != os.getpid():
-            _FORKS[self._slot] = 1
+            self._mark_copied(_FORK)
             raise Refused(FORKED)
         if self._is_copy:
+            self._mark_copied(_COPY)
             raise Refused(COPIED)
         try:
             return call(self, *given, **named)
@@ -693,6 +703,11 @@ class Recording:
             self._note_refused(str(why) if isinstance(why, Refused) else _escaped(f"{type(why).__name__}: {why}"[:MOST_LETTERS]))
             raise
 
+    def _mark_copied(self, how: int) -> None:
+        """Has the recording know of which this is a copy, if this process shares anything with its own."""
+        if self._begun_by in _FORKS:
+            _FORKS[self._begun_by][self._slot] = how
+
     def _note_refused(self, words: str) -> None:
         self._first_refused = self._first_refused or words
         self._refused += 1
@@ -700,8 +715,8 @@ class Recording:
     def _refusals(self) -> List[str]:
         """That calls were refused, a line each, if what they say was not recorded later."""
         told = [f"a call was refused, and what it says never came: {words}" for _, (_, words) in sorted(self._open.items())[:1]]
-        if _FORKS[self._slot]:
-            told.insert(0, FORKED_TOLD)
+        if self._begun_by in _FORKS and _FORKS[self._begun_by][self._slot]:
+            told.insert(0, TOLD_OF_COPIES[_FORKS[self._begun_by][self._slot]])
         if self._refused == 1:
             return [f"a call was refused, so what it says is not recorded: {self._first_refused}", *told]
         if self._refused:
@@ -1007,6 +1022,8 @@ def _escaped(text: str) -> str:
 
 
 def _listed(response: Any) -> List[Any]:
+    if isinstance(response, (set, frozenset)):
+        raise Refused("a response is a list: a set has no order")
     try:
         names = None if isinstance(response, (str, bytes)) else iter(response)
     except TypeError:

@@ -719,8 +719,8 @@ impl Recording {
         Ok([self.refusals.told(), Warned::of(self).all()].concat())
     }
 
-    /// The program's report on this recording, as JSON. It has one more key, `warnings`: where the verdict is accepted a list of what
-    /// that may hide, and else whether calls were refused. The program is that of $DOMEPEELER, or `domepeeler`.
+    /// The program's report on this recording, as JSON. It has one more key, `warnings`: where the verdict is accepted, or weak holds, a list
+    /// of what that may hide, and else whether calls were refused. The program is that of $DOMEPEELER, or `domepeeler`.
     pub fn judge(&self) -> Result<String, String> {
         self.judge_by(&named("DOMEPEELER", "domepeeler"))
     }
@@ -749,7 +749,8 @@ impl Recording {
         let end = end.ok_or_else(|| format!("{program} printed a report without a verdict"))?;
         let is_accepted = report.contains("\"verdict\":\"accepted\"");
         self.check_agrees(program, &done, is_accepted, &report, "\"operations\":", ",")?;
-        let warnings = if is_accepted { self.warnings()? } else { self.refusals.told() };
+        let is_passing = is_accepted || report.contains("\"weak\":true");
+        let warnings = if is_passing { self.warnings()? } else { self.refusals.told() };
         let told: Vec<String> = warnings.iter().map(|warning| quoted(warning)).collect();
         report.insert_str(end, &format!(",\"warnings\":[{}]", told.join(",")));
         Ok(report)

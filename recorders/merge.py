@@ -307,12 +307,30 @@ def write_out(text):
 
 
 def keep_apart(output, logs):
-    """Ends the program where a file that is to be written is one of those that are read."""
+    """Ends the program where a file that is to be written is one of those that are read, or a trace that was not merged, as the first log is
+    in `--output log*`."""
     for written in output, output + SIDE:
         for log in logs:
             for path, what in (log, "one of the logs"), (log + SIDE, "what stands beside %s" % log):
                 if os.path.exists(written) and os.path.exists(path) and os.path.samefile(written, path):
                     fail(2, "cannot write %s: it is %s" % (written, what))
+    if begins_as_trace(output) and MERGED_MARK not in lines_of_side(output):
+        fail(2, "cannot write %s: it is a trace, or a log, that was not merged" % output)
+
+
+def begins_as_trace(path):
+    """Whether there is a regular file of this name that can be read, and begins so."""
+    try:
+        return content(path).split(b"\n")[0].decode("latin-1") in ENTRIES
+    except OSError:
+        return False
+
+
+def lines_of_side(path):
+    try:
+        return content(path + SIDE).split(b"\n")[1:]
+    except OSError:
+        return []
 
 
 def be_stopped(stop, _):

@@ -223,6 +223,7 @@ def judge_by(pool, folder, options):
 
 
 def main():
+    signal.signal(signal.SIGCHLD, signal.SIG_DFL)  # where it is ignored, as by a daemon that starts this, each status is 0
     for stop in STOPS:
         if signal.getsignal(stop) != signal.SIG_IGN:
             signal.signal(stop, be_stopped)

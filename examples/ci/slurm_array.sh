@@ -2,10 +2,10 @@
 # An array of 100 tasks, of which each judges one of the folders night/part0 to night/part99 and leaves a file of lines in the folder
 # judged. It needs the installed tools. A task succeeds where its file has a line with a verdict for each trace, accepted or not: status 1
 # alone does not say so, since a shell and Python end with it too. Where a folder has two names, by a link, its traces are judged once. Task 0
-# fails too where a trace below night lies in no task's folder. For more tasks raise both numbers.
+# fails too where a trace below night lies in no task's folder: `sbatch --array=0-9` judges part0 to part9 alone. Without Slurm, last is 99.
 #SBATCH --array=0-99
 #SBATCH --cpus-per-task=4
-last=99
+last="${SLURM_ARRAY_TASK_MAX:-99}"
 part="night/part$SLURM_ARRAY_TASK_ID" lines="judged/$SLURM_ARRAY_TASK_ID.jsonl"
 mkdir -p judged && : > "$lines" || exit 2
 domepeeler-judge-many --json --jobs 4 -- "$part" > "$lines"

@@ -46,4 +46,5 @@ test("three writers of one page", async () => {
   await recorded.recording.save(FILE) // new, and the rest
   const report = await recorded.recording.judge()
   assert.equal(report.verdict, "accepted", `domepeeler-explain ${FILE} says what went wrong`)
+  assert.deepEqual(report.warnings, []) // an update that the network loses is told of here alone
 })

@@ -3,6 +3,7 @@ import argparse
 import os
 import random
 import re
+import select
 import shlex
 import shutil
 import signal
@@ -14,7 +15,7 @@ import time
 from collections import Counter
 from concurrent.futures import FIRST_EXCEPTION, ThreadPoolExecutor, wait
 from pathlib import Path
-from typing import BinaryIO, Callable, NamedTuple, NoReturn, Optional
+from typing import Callable, NamedTuple, NoReturn, Optional
 
 sys.path.insert(1, str(Path(__file__).resolve().parent.parent))
 
@@ -31,6 +32,8 @@ UNEQUAL = ", unequal"  # behind these, of a whole session: in the end its replic
 JUDGES = 3  # how many programs run at the same time
 SECONDS = 0.2  # between two looks for a signal
 MOST_WAITED = 5  # seconds for a thread, where a signal has stopped this
+MOST_OF_VERSION = 60  # seconds in which a program says its version
+AFTER_END = 2  # seconds without a byte, after which nobody answers for an engine that has ended
 STOPS = [signal.SIGINT, signal.SIGTERM, signal.SIGHUP]
 MOST_LINE, MOST_BYTES = 1 << 18, 1 << 24  # of an answer; those of right engines have two megabytes at most
 MOST_SHOWN = 60  # letters of a faulty line
@@ -220,7 +223,7 @@ class Driver:
     """An engine that runs: it takes plans and answers traces. One that stops is started again for the next plan."""
 
     def __init__(self, engine: Engine, folder: Path):
-        self.engine, self.words, self.said, self.process = engine, engine.prepare(folder), folder / "said", None
+        self.engine, self.words, self.said, self.process, self.answers = engine, engine.prepare(folder), folder / "said", None, None
         self.late = self.was_late = False  # this one, one of those before
 
     def trace(self, plan: str) -> Optional[str]:
@@ -234,20 +237,20 @@ class Driver:
 
     def answer(self, plan: bytes) -> str:
         self.start()
-        feeding = threading.Thread(target=feed, args=(self.process.stdin.fileno(), plan))
+        feeding = threading.Thread(target=feed, args=(os.dup(self.process.stdin.fileno()), plan), daemon=True)
         late = threading.Timer(self.engine.seconds, self.stop)
         signal.pthread_sigmask(signal.SIG_BLOCK, STOPS)  # which these threads would keep
         feeding.start()
         late.start()
         signal.pthread_sigmask(signal.SIG_UNBLOCK, STOPS)
         try:
-            lines = answer_lines(self.process.stdout)
+            lines = self.answers.next()
         finally:
             late.cancel()
         if lines[-1:] != [b"end\n"]:
             why = self.no_answer(lines)
             self.close()
-            feeding.join()
+            feeding.join(SECONDS)  # what the engine has left may hold its input too
             raise why
         feeding.join()
         return b"".join(lines[:-1]).decode("ascii", errors="backslashreplace")
@@ -262,6 +265,12 @@ class Driver:
                                                 env=self.engine.surroundings, start_new_session=True)
             except OSError as why:
                 raise NoAnswer(ENDED, f"it can't be run: {why.strerror}") from None
+        self.answers = Answers(self.process.stdout.fileno(), self.is_over)
+
+    def is_over(self, silent: float) -> bool:
+        """Whether nobody answers any more, who has said nothing for so long: it was late, or has ended, whatever it has left that holds its
+        output."""
+        return self.late or silent > AFTER_END and self.process.poll() is not None
 
     def no_answer(self, lines: list) -> NoAnswer:
         """Why these lines are no whole answer."""
@@ -314,23 +323,47 @@ def counted(count: int, what: str) -> str:
 
 
 def feed(descriptor: int, plan: bytes) -> None:
-    """Writes a plan for an engine, which may answer before it has read all."""
+    """Writes a plan for an engine, which may answer before it has read all; and closes the descriptor."""
     try:
         while plan:
             plan = plan[os.write(descriptor, plan):]
     except OSError:  # it reads no more
         pass
+    finally:
+        os.close(descriptor)
 
 
-def answer_lines(stream: BinaryIO) -> list:
-    """The lines of an answer, up to the line `end` where there is one."""
-    lines, size = [], 0
-    for line in iter(lambda: stream.readline(MOST_LINE), b""):
-        lines.append(line)
-        size += len(line)
-        if line == b"end\n" or not line.endswith(b"\n") or size > MOST_BYTES:
-            break
-    return lines
+class Answers:
+    """What an engine writes on its standard output, which another process may hold open when it has ended. The call says whether it is over
+    after so many seconds without a byte."""
+
+    def __init__(self, descriptor: int, is_over: Callable):
+        self.descriptor, self.is_over, self.unread = descriptor, is_over, b""
+
+    def next(self) -> list:
+        """The lines of an answer, up to the line `end` where there is one."""
+        lines, size = [], 0
+        for line in iter(self.line, b""):
+            lines.append(line)
+            size += len(line)
+            if line == b"end\n" or not line.endswith(b"\n") or size > MOST_BYTES:
+                break
+        return lines
+
+    def line(self) -> bytes:
+        """The next line, or the front of a long one; without a line feed at the end of all."""
+        since = time.monotonic()
+        while (at := self.unread.find(b"\n", 0, MOST_LINE)) < 0 and len(self.unread) < MOST_LINE:
+            if select.select([self.descriptor], [], [], SECONDS)[0]:
+                part = os.read(self.descriptor, MOST_LINE)
+                if not part:
+                    break
+                self.unread, since = self.unread + part, time.monotonic()
+            elif self.is_over(time.monotonic() - since):
+                break
+        end = at + 1 if at >= 0 else min(len(self.unread), MOST_LINE)
+        line, self.unread = self.unread[:end], self.unread[end:]
+        return line
 
 
 def quoted(line: bytes) -> str:
@@ -568,9 +601,11 @@ def check_is_domepeeler(program: str) -> None:
     if not shutil.which(program):
         fail(f"{program} is no program")
     try:
-        done = subprocess.run([program, "--version"], stdin=subprocess.DEVNULL, capture_output=True)
+        done = subprocess.run([program, "--version"], stdin=subprocess.DEVNULL, capture_output=True, timeout=MOST_OF_VERSION)
     except OSError as why:
         fail(f"{program} can't be run: {why.strerror}")
+    except subprocess.TimeoutExpired:
+        fail(f"{program} is not domepeeler: asked for its version it did not answer within {counted(MOST_OF_VERSION, 'second')}")
     if done.returncode or not done.stdout.startswith(b"domepeeler "):
         fail(f"{program} is not domepeeler: asked for its version it ended with status {done.returncode}")
 
@@ -692,6 +727,7 @@ def wait_for(thread: threading.Thread) -> None:
 
 def run_command(description: str) -> None:
     """Runs it as a command, to its end."""
+    signal.signal(signal.SIGCHLD, signal.SIG_DFL)  # where it is ignored, as by a daemon that starts this, each status is 0
     for stop in STOPS:
         if signal.getsignal(stop) != signal.SIG_IGN:
             signal.signal(stop, be_stopped)

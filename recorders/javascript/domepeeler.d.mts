@@ -20,7 +20,7 @@ export interface Report {
   inserts: number
   strong?: boolean
   weak?: boolean
-  /** What the verdict may hide where it is accepted, or where weak is asked for and holds; else empty. */
+  /** What the verdict may hide where it is accepted, or weak holds; else that calls were refused. */
   warnings: string[]
   [field: string]: unknown
 }
@@ -104,8 +104,8 @@ export class Recording {
   /** What an accepted verdict on this recording may hide: that replicas end differently, say, or that nothing was recorded. */
   warnings(): Promise<string[]>
 
-  /** The program's report on this recording, and as `warnings` what it may hide where it says `accepted`; with `weak`, where weak holds.
-   * The program is the words that are given, that of $DOMEPEELER, or `domepeeler`. */
+  /** The program's report on this recording, and as `warnings` what it may hide where it says `accepted`, or that weak holds. It answers,
+   * and never fails where the recording is wrong: a test that doesn't look at its answer passes. The program is the words that are given, that of $DOMEPEELER, or `domepeeler`. */
   judge(program?: string | readonly string[] | null, options?: Goal): Promise<Report>
 
   /** What the report means, in words, with the lines of your code or log, and your notes. With `weak`, where the weak list specification

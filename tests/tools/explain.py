@@ -1188,12 +1188,12 @@ def places(tally: Tally, program: str, folder: str) -> None:
                 paragraph(got, "In a debugger") == "  stop before line 7 of the trace, where replica 1 reads the list. The editor then writes deep/my.ndjson:3.", got)
     kept = smaller.read_text().splitlines()[2:], Path(f"{smaller}.lines").read_text()
     tally.check("places: of a small trace", kept == (["0 ins a 0 : a", "1 recv 0 1", "1 read : a", "1 read :"],
-                                                   "6\n3 my.log.1:1\n4 my.out:2\n5 my.tsv:2\n6 deep/my.ndjson:3\n"), kept)
+                                                   "6\nsmall\n3 my.log.1:1\n4 my.out:2\n5 my.tsv:2\n6 deep/my.ndjson:3\n"), kept)
     Path(f"{path}.lines").write_text("7\nlog\n3 journal:1\n4 my.py:2\n5 my.py:2\n7 a, b:3\n")
     got = explain(program, ["--small", str(smaller), str(path)]).out.decode()
     kept = Path(f"{smaller}.lines").read_text()
     tally.check("places: of a log of any name", paragraph(got, "In your log") == "  line 3: journal:1\n  lines 4 and 5: my.py:2\n  line 7: a, b:3" and
-                "breakpoint" not in got and kept == "6\nlog\n3 journal:1\n4 my.py:2\n5 my.py:2\n6 a, b:3\n", (got, kept))
+                "breakpoint" not in got and kept == "6\nsmall\nlog\n3 journal:1\n4 my.py:2\n5 my.py:2\n6 a, b:3\n", (got, kept))
     Path(f"{path}.lines").write_text("7\n3 my.log:1\n4 my.py:2\n5 my.log:2\n7 my.log:3\n")
     got = explain(program, [str(path)]).out.decode()
     tally.check("places: of a log and of code", "\nIn your code\n" in got and "breakpoint" in got, got)
@@ -1343,7 +1343,16 @@ def saved(tally: Tally, program: str, folder: str) -> None:
     recording.save(str(path))
     smaller = path.with_name("smaller.trace")
     smaller.write_text("trace 1\nreplicas 1\n")
-    Path(f"{smaller}.lines").write_text("2\n")
+    for beside in None, "2\n", "2\nnote small\n":
+        if beside:
+            Path(f"{smaller}.lines").write_text(beside)
+        got = explain(program, ["--small", str(smaller), str(path)])
+        tally.check(f"saved: no small trace in the place of one that --small did not write, {beside!r}", (got.status, got.out) == (2, b"") and got.err ==
+                    f"domepeeler-explain: {smaller} is a trace that --small did not write, so it is not written to\n".encode() and
+                    smaller.read_text() == "trace 1\nreplicas 1\n", got)
+    smaller.unlink()
+    explain(program, ["--small", str(smaller), "-"], text_of(1, "0 ins a 0 : a|0 read :").encode())
+    tally.check("saved: a small trace has a file beside it", (smaller.read_text().count("\n"), Path(f"{smaller}.lines").read_text()) == (4, "4\nsmall\n"))
     explain(program, ["--small", str(smaller), str(path)])
     got = explain(program, [str(smaller)])
     tally.check("saved: a small trace in the place of another", smaller.read_bytes().count(b"\n") == 6 and got.status == 1 and not warned(got), got)
@@ -1383,6 +1392,11 @@ def from_yjs(tally: Tally, program: str, folder: str) -> None:
                           env=variables | {"RECORDING": "page.trace"})
     tally.check("Yjs: as it is copied", done.returncode == 0 and
                 Path(copied, "page.trace").read_bytes() == (YJS / "page.trace").read_bytes(), done)
+    losing, test = Path(copied, "losing.test.mjs"), Path(copied, "page.test.mjs").read_text()
+    compares = next(line for line in test.splitlines(keepends=True) if "assert.equal(page.toString()" in line)
+    losing.write_text(test.replace(compares, "").replace("if (to !== from)", "if (to !== from && (from !== 2 || to !== 0))"))
+    done = subprocess.run(["node", "--test", "--test-reporter=tap", losing.name], capture_output=True, text=True, cwd=copied, env=variables)
+    tally.check("Yjs: a network that loses an update for ever", done.returncode == 1 and "replica 0 never hears of replica 2" in done.stdout, done)
     done = subprocess.run(["node", "--test", YJS / "recorded_yjs.test.mjs"], capture_output=True, text=True, env=variables)
     tally.check("Yjs: what is recorded", done.returncode == 0, done.stdout)
 
@@ -1447,6 +1461,53 @@ def from_no_answer(tally: Tally, program: str, folder: str) -> None:
                           (["list_crdt", program, "--sessions", "-3"], "record.py: error: argument --sessions: -3 is no number from 1 on\n")):
         done = subprocess.run([RECORD, *words], capture_output=True, text=True)
         tally.check(f"record.py: {words}", done.returncode == 2 and done.stderr.endswith(wanted) and not done.stdout and "Traceback" not in done.stderr, done)
+
+
+# Runs a command where SIGCHLD is ignored, so that nobody hears the status of what has ended. A shell would hear it.
+IGNORING = [sys.executable, "-c", "import os, signal, sys; signal.signal(signal.SIGCHLD, signal.SIG_IGN); os.execvp(sys.argv[1], sys.argv[1:])"]
+SOON = """
+import sys
+import {0}
+from {1} import run_command
+{0}.MOST_OF_VERSION = 1
+run_command({2})
+"""
+
+
+def without_end(tally: Tally, program: str, folder: str) -> None:
+    """A program that never answers its version is no domepeeler; and an engine that has ended does not answer, though what it has left in the
+    background holds its output. Where SIGCHLD is ignored, verdicts count all the same."""
+    serving, engine, wrong = (Path(folder, name) for name in ("serving", "engine_left.sh", "wrong.py"))
+    serving.write_text("#!/bin/sh\nexec sleep 60\n")
+    engine.write_text(f"#!/bin/sh\nsetsid sleep 60 &\necho $! > '{folder}/left'\nread plan\necho trace 1\nexit 5\n")
+    for path in serving, engine:
+        path.chmod(0o755)
+    for paths, module, runner, given, words in (("recorders/engines", "random_sessions", "random_sessions", "''", ["list_crdt", str(serving)]),
+                                                ("tools", "explaining.programs", "explaining.commands", "'judge_many', 'many_command'", ["--program", str(serving), folder])):
+        done = limited([sys.executable, "-c", SOON.format(module, runner, given), *words], 20, env=os.environ | {"PYTHONPATH": str(ROOT / paths)})
+        tally.check(f"a program that never ends, asked for its version by {runner}", done.returncode == 2 and not done.stdout and re.search(
+            r": asked for its version it did not answer within 1 seconds?\n$", done.stderr), done)
+    done = limited([RECORD, str(engine), program, "--sessions", "1"], 40)
+    tally.check("record.py: an engine that has ended, and what it left holds its output", done.returncode == 2 and done.stderr ==
+                f"record.py: {engine}: it ended with status 5 before the line `end`; its last line is `trace 1`\n", done)
+    subprocess.run(["kill", Path(folder, "left").read_text().strip()], capture_output=True)
+    wrong.write_text("from list_crdt import ListCrdt\n\nclass Engine(ListCrdt):\n    def names(self):\n        return super().names()[1:]\n")
+    usual = [RECORD, str(wrong), program, "--sessions", "3"]
+    told, ignoring = (subprocess.run([*before, *usual], capture_output=True, text=True) for before in ([], IGNORING))
+    tally.check("record.py: SIGCHLD is ignored", told.returncode == 1 and "contents" in told.stdout and (ignoring.returncode, ignoring.stdout, ignoring.stderr)
+                == (told.returncode, told.stdout, told.stderr), ignoring)
+    trace = Path(folder, "ignoring.trace")
+    trace.write_text("trace 1\nreplicas 1\n0 ins a 0 : a\n0 read :\n")
+    done = subprocess.run([*IGNORING, EXPLAIN, "--program", program, str(trace)], capture_output=True, text=True)
+    tally.check("explain: SIGCHLD is ignored", (done.returncode, done.stderr) == (1, "") and done.stdout.startswith("contents 0.2: "), done)
+
+
+def limited(words: list, seconds: float, **given: object) -> subprocess.CompletedProcess:
+    """A run that is to end within so many seconds."""
+    try:
+        return subprocess.run(words, capture_output=True, text=True, timeout=seconds, **given)
+    except subprocess.TimeoutExpired as error:
+        return subprocess.CompletedProcess(error.cmd, None, "", "it hangs")
 
 
 WAITS_FOR_ONE_THAT_BEGINS = """
@@ -2404,6 +2465,7 @@ def main() -> None:
         from_yjs(tally, program, folder)
         from_own_engine(tally, program, folder)
         from_no_answer(tally, program, folder)
+        without_end(tally, program, folder)
         record_ended(tally, program, folder)
         arguments(tally, program, folder)
         astray(tally, program, folder)

@@ -248,6 +248,9 @@ def in_ci(project: str, path: str, step: str, variables: dict) -> subprocess.Com
                           stdin=subprocess.DEVNULL, capture_output=True, text=True)
 
 
+# Runs a command where SIGCHLD is ignored, so that nobody hears the status of what has ended. A shell would hear it.
+IGNORING = "python3 -c 'import os, signal, sys; signal.signal(signal.SIGCHLD, signal.SIG_IGN); os.execvp(sys.argv[1], sys.argv[1:])'"
+
 # Of a name that writes lines and colours, how it is shown, and how GitHub's form has that.
 ODD = {"x\n::error::forged.trace": ("x\\n::error::forged.trace", "x\\n%3A%3Aerror%3A%3Aforged.trace"),
        "y\x1b[31m.trace": ("y\\x1b[31m.trace", "y\\x1b[31m.trace")}
@@ -303,6 +306,11 @@ def jobs_of_ci(tally: Tally, program: str, folder: str) -> None:
     tally.check("CI: it can't write", (done.returncode, done.stdout, done.stderr) == (2, "", told), done)
     done = in_ci(project_of(folder, {"unread.trace": "0 reads :"}), path, step, {})
     tally.check("CI: no page, and none is named", done.returncode == 2 and done.stdout.endswith("1 not accepted: judged/junit.xml has them all\n"), done)
+    done = in_ci(project_of(folder, {"a.trace": "0 ins a 0 : a|0 read :"}), path, f"{IGNORING} {step}", {})
+    tally.check("CI: SIGCHLD is ignored, as by a daemon", done.returncode == 1 and "a.trace: contents 0.2: " in done.stdout and
+                "1 not accepted: " in done.stdout, done)
+    done = in_ci(project_of(folder, {"a.trace": "0 ins a 0 : a|0 read :"}), path, f"{IGNORING} domepeeler-judge-many recordings", {})
+    tally.check("CI: SIGCHLD is ignored by what starts judge_many", (done.returncode, done.stderr) == (1, "") and "1 trace: 1 contents" in done.stdout, done)
     done = in_ci(project_of(folder, {}), path, step, {"GITHUB_ACTIONS": "true"})
     tally.check("CI: no recording", done.returncode == 2 and done.stderr.startswith("domepeeler-judge-many: "), done)
     done = in_ci(project_of(folder, ACCEPTED), path.partition(os.pathsep)[2], step, {})
@@ -966,6 +974,26 @@ def left_over(tally: Tally, program: str, folder: str) -> None:
             Path(place, "x.trace").unlink()
             alone = judge(program, ["--json", place])
             tally.check(f"left over: {name} alone", alone.status == 2 and json.loads(alone.out)["error"] == words, alone)
+    for name, text, beside, is_told in (("session", A_TRACE, "3\n", True), ("night.txt", "trace 2\nreplicas 2\n0 ins a 0 : a\n1 view :\n", "4\n", True), (
+            "0.log", "trace 1\nreplicas 2\n0 ins a 0 : a\n0 recv 1 1\n", "4\n", False), (
+            "1.log", "trace 1\nreplicas 2\n", "2\n", False), ("small", A_TRACE, "3\nsmall\n", False), (
+            "notes", "of x\n", "1\n", False), ("page", A_TRACE, None, False), ("empty", "trace 1\nreplicas 1\n", "2\n", True)):
+        place = Path(tempfile.mkdtemp(dir=folder))
+        (place / "x.trace").write_text(A_TRACE)
+        (place / name).write_text(text)
+        if beside:
+            (place / f"{name}.lines").write_text(beside)
+        got = judge(program, ["--json", str(place)])
+        rows = {Path(row["file"]).name: row.get("error") for row in map(json.loads, got.out.decode().splitlines())}
+        tally.check(f"left over: {name} with its lines beside it", (got.status, rows) == ((2, {"x.trace": None, name: PASSED_OVER}) if is_told else
+                    (0, {"x.trace": None})), got)
+    for name, side, beside in ("G.TRACE", "G.TRACE.LINES", "3\n"), ("G.trace", "G.trace.lines", "\ufeff3\n"), ("G.trace", "G.trace.lines", ""):
+        place = Path(tempfile.mkdtemp(dir=folder))
+        (place / name).write_text(A_TRACE)
+        (place / side).write_text(f"{beside}refused a call was refused, so what it says is not recorded: no replica 7\n")
+        got, told = judge(program, ["--json", str(place)]), run(str(ROOT / "tools" / "explain"), ["--program", program, str(place / name)])
+        tally.check(f"left over: refused in {side}, {beside!r}", got.status == told.status == 2 and json.loads(got.out)["verdict"] == "failed" and b"no replica 7" in got.out
+                    and told.out.startswith(b"accepted, but this is no pass: a call was refused"), (got, told))
     place = Path(tempfile.mkdtemp(dir=folder))
     (place / "x.trace").write_text(A_TRACE)
     (place / ".domepeeler-5").write_text(A_TRACE)
@@ -1260,6 +1288,14 @@ def overwriting(tally: Tally, program: str, folder: str) -> None:
     tally.check("overwriting: what stands beside the small trace", got.returncode == 2 and not got.stdout, got)
     tally.check("overwriting: all is as it was", Path(path).read_bytes() == text and sorted(os.listdir(folder)) == ["a.trace", "a.trace.lines", "link", "same"],
                 os.listdir(folder))
+    for name, other in ("0", "trace 1\nreplicas 1\n0 ins b 0 : b\n"), ("1", "trace 2\nreplicas 1\n0 view :\n"):  # as in `--junit *.trace`
+        first = Path(folder, f"{name}.trace")
+        first.write_text(other)
+        for words in [explain, "--small", first, path], [explain, "--html", first, path], [explain, "--svg", first, path], [TOOL, "--junit", first, path]:
+            got = subprocess.run([words[0], "--program", program, *words[1:]], capture_output=True, text=True)
+            tally.check(f"overwriting: another trace, {words[1]} {name}", (got.returncode, got.stdout, got.stderr, first.read_text()) == (
+                2, "", f"{name_of(words[0])}: {first} is a trace{' that --small did not write' * (words[1] == '--small')}, so it is not written to\n", other), got)
+        first.unlink()
     old = Path(folder, "old.html")
     old.write_text("old")
     old.chmod(0o640)
@@ -1659,6 +1695,13 @@ def stray(tally: Tally, kind: str, place: str, words: list, here: dict) -> None:
                         (re.search(rf"^no task judges (night|\.)/{name}: is there a part behind 99\?\n$", done.stderr, re.MULTILINE) is not None) == fails, done)
         shutil.rmtree(f"{place}/night/part7")
         Path(place, "night", name).unlink()
+    if kind != "kubernetes":
+        for last, name, fails in ("9", "part9/x.trace", False), ("9", "part10/x.trace", True), ("", "part99/x.trace", False):
+            write(f"{place}/night", {name: "0 ins a 0 : a"})
+            done = subprocess.run(words, cwd=place, capture_output=True, text=True, env=here | ({"SLURM_ARRAY_TASK_MAX": last} if last else {}))
+            tally.check(f"tasks: {kind}: {name} where the last task is {last or 'not known'}", done.returncode == (2 if fails else 0) and (
+                f"no task judges night/{name}: is there a part behind 9?\n" in done.stderr) == fails, done)
+            shutil.rmtree(f"{place}/night/{name.partition('/')[0]}")
 
 
 def script_of_ci(tally: Tally, program: str, folder: str) -> None:
@@ -1953,6 +1996,16 @@ def big_traces(tally: Tally, program: str, folder: str) -> None:
     rows_without = [json.loads(line) | {"seconds": 0} for line in done.stdout.splitlines()]
     tally.check("big traces: where one that looks is killed", os.path.exists(f"{folder}/killed") and rows_without == told[0]
                 and (done.returncode, done.stderr) == (1, ""), (done.returncode, done.stderr))
+    beside = Path(folder, "beside")
+    beside.mkdir()
+    Path(beside, "token.py").write_text("import time\n\ntime.sleep(60)\n")
+    Path(beside, "bisect.py").write_text("print('mine')\n")
+    try:
+        done = subprocess.run([TOOL, "--program", program, "--json", "--jobs", "3", "--", folder], capture_output=True, text=True, cwd=beside, timeout=40)
+    except subprocess.TimeoutExpired as error:
+        done = subprocess.CompletedProcess(error.cmd, None, "", "it hangs")
+    tally.check("big traces: a module of the current folder has the name of one of Python's", done.stderr == "" and [
+        json.loads(line) | {"seconds": 0} for line in done.stdout.splitlines()] == told[0], done.stderr)
     sizes = [path.stat().st_size for path in Path(folder).glob("*.trace")]
     tally.check("big traces: the same rows", told[0] == told[1] and [row["verdict"] for row in told[0]] == [*["contents"] * 5, "accepted"]
                 and min(sizes) > 1 << 20, (told[0] and told[0][0].get("fails_at"), sizes))

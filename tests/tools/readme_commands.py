@@ -113,6 +113,9 @@ def unpack(home: str) -> None:
 def check_page(tally: Tally, page: str, least: int) -> None:
     shown = [command for block in blocks((ROOT / page).read_text()) for command in commands(block)]
     tally.check(f"{page}: has its commands", len(shown) >= least, len(shown))
+    for small in re.findall(r"--small (/tmp/\S+)", "\n".join(one.command for one in shown)):  # where an older --small says nothing beside it
+        for left in small, f"{small}.lines":
+            Path(left).unlink(missing_ok=True)
     with tempfile.TemporaryDirectory() as home:
         if page == FRONT:
             unpack(home)

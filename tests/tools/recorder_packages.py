@@ -483,9 +483,7 @@ def test_waits():
 
 ENDS = {
     "python": '''
-import copy
 import os
-import pickle
 import pytest
 import unittest
 from domepeeler import Refused
@@ -594,14 +592,6 @@ class TestOfUnittest(unittest.TestCase):
     def test_fails(self):
         self.domepeeler(1).insert(0, "a", 0, [])
         self.fail("nine is not ten")
-
-
-def test_copies(domepeeler):
-    recording = domepeeler(1)
-    recording.insert(0, "a", 0, ["a"])
-    for one in copy.deepcopy(recording), pickle.loads(pickle.dumps(recording)):
-        with pytest.raises(Refused, match="this is a copy of a recording"):
-            one.read(0, [])
 
 
 def test_removes_its_folder(domepeeler, tmp_path, monkeypatch):
@@ -1323,6 +1313,7 @@ def check_python(tally: Tally, place: Place) -> None:
     tally.check("pytest: warns where nothing was recorded, and nowhere else", "2 failed, 3 passed, 1 warning" in said and
                 "test_nothing" in said and all(words in said for words in warnings_of("accepted", b"trace 1\nreplicas 2\n").all), said)
     check_ends_of_pytest(tally, place, [*command[:-1], "test_ends.py"])
+    check_copies_of_pytest(tally, place, [*command[:-1], "test_copies.py"])
     check_two_runs(tally, place, [*command[:-1], "test_runs.py"])
     check_weak_of_pytest(tally, place, [*command[:-1], "test_weak.py"])
     check_stop_of_pytest(tally, place, [*command[:-1], "test_stop.py"])
@@ -1339,7 +1330,7 @@ def check_ends_of_pytest(tally: Tally, place: Place, command: list) -> None:
     shutil.rmtree(kept)
     done = place.run(command, "python")
     tally.check("pytest: counts of ends", done.returncode == 1 and
-                "4 failed, 7 passed, 3 skipped, 1 xfailed, 3 warnings, 6 errors" in done.stdout, done.stdout)
+                "4 failed, 6 passed, 3 skipped, 1 xfailed, 3 warnings, 6 errors" in done.stdout, done.stdout)
     warned = done.stdout.partition("test_ends.py::test_begins_none")[2].partition("\n\n")[0]
     tally.check("pytest: warns of a test that takes the fixture and begins no recording",
                 "NothingRecorded: the fixture domepeeler began no recording, so nothing was judged" in warned, done.stdout)
@@ -1364,7 +1355,7 @@ def check_ends_of_pytest(tally: Tally, place: Place, command: list) -> None:
     (place.folder / "python/test_later.py").unlink()
     check_cut_short(tally, place, [*command[:-1], "test_cut.py"])
     done = place.run([*command, "-k", "unsure", "-W", "error::domepeeler.pytest_plugin.Unsure"], "python")
-    tally.check("pytest: such a warning as an error", done.returncode == 1 and "1 passed, 15 deselected, 1 error" in done.stdout
+    tally.check("pytest: such a warning as an error", done.returncode == 1 and "1 passed, 14 deselected, 1 error" in done.stdout
                 and f"\nUnsure: {UNSURE[0]}\n" in done.stdout and "The trace is saved: " in done.stdout, done.stdout)
     broken = str(place.folder / "broken")
     for script, told in BROKEN:
@@ -1378,6 +1369,106 @@ def check_ends_of_pytest(tally: Tally, place: Place, command: list) -> None:
     names = sorted(path.name for path in mine.iterdir())
     tally.check("pytest: a folder that was there is not passed over", names == [f"test_ends.py--test_fails_and_is_right.trace{end}"
                                                                               for end in ("", ".lines")], names)
+
+
+COPIES = '''
+import concurrent.futures
+import copy
+import multiprocessing
+import os
+import pickle
+import threading
+import pytest
+from domepeeler import Recording, Refused
+
+
+def answers_wrong(recording):
+    recording.read(0, [])
+
+
+def refuses(recording):
+    with pytest.raises(Refused, match="this is a copy of a recording|this process was forked"):
+        answers_wrong(recording)
+    return "refused"
+
+
+@pytest.fixture
+def recording(domepeeler):
+    recording = domepeeler(1)
+    recording.insert(0, "a", 0, ["a"])
+    return recording
+
+
+def forked(body):
+    child = os.fork()
+    if not child:
+        try:
+            body()
+        finally:
+            os._exit(0)
+    return child
+
+
+def test_copied(recording):
+    refuses(copy.deepcopy(recording))
+
+
+def test_pickled(recording):
+    refuses(pickle.loads(pickle.dumps(recording)))
+
+
+def test_thread(recording):
+    thread = threading.Thread(target=refuses, args=[copy.deepcopy(recording)])
+    thread.start()
+    thread.join()
+
+
+def test_pool(recording):
+    with multiprocessing.get_context("fork").Pool(1) as pool:
+        assert pool.apply(refuses, [recording]) == "refused"
+
+
+def test_executor(recording):
+    with concurrent.futures.ProcessPoolExecutor(1, multiprocessing.get_context("fork")) as executor:
+        executor.submit(answers_wrong, recording)
+
+
+@pytest.mark.parametrize("way", ["fork", "spawn", "forkserver"])
+def test_process(recording, way):
+    process = multiprocessing.get_context(way).Process(target=refuses, args=[recording])
+    process.start()
+    process.join()
+
+
+def test_begun_elsewhere(domepeeler):
+    reader, writer = os.pipe()
+    begins = forked(lambda: os.read(reader, 1) and Recording(1))  # by when the others have done what they do
+    recording = domepeeler(1)
+    recording.insert(0, "a", 0, ["a"])
+    os.waitpid(forked(lambda: refuses(recording)), 0)
+    os.write(writer, b"x")
+    os.waitpid(begins, 0)
+
+
+def test_right(recording):
+    assert copy.deepcopy(recording).text() == recording.text()
+    os.waitpid(forked(lambda: recording.text() and Recording(1).read(0, [])), 0)
+'''
+OF_A_COPY, OF_A_FORK = (f"{words} of this recording, so what it says is not recorded" for words in (
+    "something was recorded into a copy", "a forked process recorded into its copy"))
+
+
+def check_copies_of_pytest(tally: Tally, place: Place, command: list) -> None:
+    """What a copy of a recording refuses, of a thread, a forked process or a pool, fails the test, whoever begins recordings meanwhile; and no copy
+    goes to a process that is spawned."""
+    place.make("python/test_copies.py", COPIES)
+    done = place.run(command, "python")
+    tally.check("pytest: counts of copies", done.returncode == 1 and re.search("^9 failed, 1 passed in ", done.stdout, re.MULTILINE), done.stdout)
+    said = dict(zip(*[iter(re.split(r"^_{3,} (.+) _{3,}$", done.stdout.split("= short test summary")[0], flags=re.MULTILINE)[1:])] * 2))
+    wanted = {"copied": OF_A_COPY, "pickled": OF_A_COPY, "thread": OF_A_COPY, "pool": OF_A_COPY, "executor": OF_A_COPY, "process[fork]": OF_A_FORK,
+              "begun_elsewhere": OF_A_FORK, "process[spawn]": "Refused: this is a copy of a recording", "process[forkserver]": "Refused: this is a copy of a recording"}
+    for name, words in wanted.items():
+        tally.check(f"pytest: copies: {name}", words in said.get(f"test_{name}", ""), said.get(f"test_{name}", done.stdout))
 
 
 def check_later_of_pytest(tally: Tally, place: Place, name: str, command: list) -> None:

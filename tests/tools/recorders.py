@@ -52,7 +52,7 @@ received 0 2 1 -> ok
 read 0 b a -> ok 3
 """
 CYCLE_REPORT = {
-    "inserts": 3, "k": 3, "operations": 5, "replicas": 3, "strong": False, "verdict": "refused", "weak": True, "warnings": [],
+    "inserts": 3, "k": 3, "operations": 5, "replicas": 3, "strong": False, "verdict": "refused", "weak": True,
     "steps": [{"from": "x", "response": ["x", "b"], "shown": "2.1", "to": "b"},
               {"from": "b", "response": ["b", "a"], "shown": "0.3", "to": "a"},
               {"from": "a", "response": ["a", "x"], "shown": "1.1", "to": "x"}]}
@@ -352,7 +352,8 @@ OWN_TYPES = {
            'delivered takes one list for each of the 2 replicas, not the string "ab"', "no replica 2 among 0 to 1",
            "delivered takes one list for each of the 2 replicas, not 1", "a response is a list of names", NO_NOTE.partition(" ")[2],
            REPLICA + 'the string "' + "1" * 40 + '"..', "a recording takes `weak` only with `stop`: else give it to `judge` and `explain`",
-           ODD_REPLICA, "no change with the id ('a', '\\xc3\\xa4\\n') has been recorded"],
+           ODD_REPLICA, "no change with the id ('a', '\\xc3\\xa4\\n') has been recorded",
+           *["a response is a list: a set has no order"] * 3],
     "el": [ODD_REPLICA, REPLICA + "the symbol \\x3a:a\\x0ab"],
     "mjs": [REPLICA + "a Symbol", POSITION + "the BigInt 2", "a name is a string, not a Symbol", "a name is a string, not the BigInt 3",
             "a name is a string, not undefined", "a name is a string, not undefined", POSITION + "null", POSITION + "the number NaN",
@@ -1638,7 +1639,9 @@ def check_judge(tally: Tally, recorder: Recorder, folder: Path) -> None:
     calls = [fields(line.split(" -> ")[0]) for line in CYCLE.split("\n")[:-1]]
     got = recorder.answers([*calls, "judge"])[-1]
     report = json.loads(got[len("report "):]) if got.startswith("report {") else got
-    tally.check(f"{recorder.language}: judge", report == CYCLE_REPORT, got)
+    warned = report.pop("warnings", [])  # as weak holds
+    tally.check(f"{recorder.language}: judge", report == CYCLE_REPORT and len(warned) == 3 and warned[0].startswith(
+        "in the end replicas 0, 1 and 2 show different lists: 0.2 (line 8"), got)
     got = recorder.answers(["new\t1", "judge"])[-1]
     wanted = {"inserts": 0, "operations": 0, "order": [], "replicas": 1, "strong": True, "verdict": "accepted", "weak": True,
               "warnings": [NOTHING]}
@@ -1789,6 +1792,10 @@ MERGE_FAULTS = [
      "merge.py: cannot write 0.log.lines: it is what stands beside 0.log\n"),
     ("s.lines", log_text(LOGS[2]).encode(), ["--output", "s", "0.log", "1.log", "s.lines"], 2,
      "merge.py: cannot write s.lines: it is one of the logs\n"),
+    ("first.log", log_text(LOGS[0]).encode(), ["--output", "first.log", "1.log", "2.log"], 2,
+     "merge.py: cannot write first.log: it is a trace, or a log, that was not merged\n"),
+    ("first.log.lines", b"7\nnote merged\n", ["--output", "first.log", "1.log", "2.log"], 2,
+     "merge.py: cannot write first.log: it is a trace, or a log, that was not merged\n"),
     ("old.trace", b"old", ["--output", "old.trace", "0.log"], 1,
      "merge.py: these receipts name operations that no log has before them: 0 recv 1 1\n"),
     ("side.trace.lines/in it", b"", ["--output", "side.trace", "0.log", "1.log", "2.log"], 2,
@@ -2330,8 +2337,27 @@ def check_weak(tally: Tally, recorder: Recorder) -> None:
         alone = "| weak holds, strong doesn't" + (": " if wanted == "passes" else ", with three warnings: ")
         tally.check(f"{recorder.language}: weak, {name}: the words", said.startswith(alone) == name.startswith("strong doesn't"), said)
         told = json.loads(report[len("report "):]) if report.startswith("report {") else {"verdict": report}
-        tally.check(f"{recorder.language}: weak, {name}: without it only what is accepted is warned of", told["verdict"] == "accepted" or
-                    told["warnings"] == [], report)
+        is_warned = "all holds, and" in name or "never arrived" in name or "nothing" in name
+        tally.check(f"{recorder.language}: weak, {name}: what is judged without it warns too where weak holds", bool(told.get("warnings")) == is_warned
+                    and (told.get("weak") is True) == (wanted == "passes" or is_warned), report)
+
+
+# By name: calls of a session in C, and what domepeeler_passes() answers.
+PASSES = [("all holds", ["new 2", "insert 0 a 0 a", "delivered a / a"], "passes"),
+          ("strong doesn't hold", WEAK[0][1], "fails refused 3"),
+          ("an insert never arrived", WEAK[3][1], "fails in the end replicas 0 and 1 show different lists"),
+          ("nothing is recorded", ["new 1"], f"fails {NOTHING}"),
+          ("a lost element", ["new 2", "insert 0 a 0 a", "delivered a / (empty)"], "fails contents 1.1"),
+          ("a call was refused", ["new 1", "insert 0 a 0 a", "read 7"], "fails a call was refused, so what it says is not recorded: no replica 7")]
+
+
+def check_passes_c(tally: Tally, recorder: Recorder, folder: Path) -> None:
+    """In C a recording passes where it is accepted, nothing warns, and no call was refused; and not where there is no program."""
+    for name, calls, wanted in PASSES:
+        got = recorder.answers([fields(call.replace(" (empty)", "")) for call in [*calls, "passes"]])[-1]
+        tally.check(f"c: passes, {name}", got == wanted if wanted == "passes" else got.startswith(wanted), got)
+    got = recorder.answers([fields(call) for call in [*PASSES[0][1], "passes"]], DOMEPEELER=str(folder / "nowhere"))[-1]
+    tally.check("c: passes, without a program", got.startswith(f"fails {folder / 'nowhere'} cannot be run"), got)
 
 
 def check_stop(tally: Tally, recorder: Recorder, folder: Path) -> None:
@@ -2429,7 +2455,7 @@ HEADS = {
                       "#[path = \"{recorder}\"]\nmod domepeeler;\nuse domepeeler::Recording;\n"
                       "fn main() -> Result<(), Box<dyn std::error::Error>> {{\n{example}Ok(())\n}}\n",
                       "rustc --edition 2021 -D warnings -o head {source} && ./head"),
-    "domepeeler.h": ("    struct domepeeler *", "    domepeeler_free", " * ",
+    "domepeeler.h": ("    struct domepeeler *", "    domepeeler_free", " * ",  # whose test says nothing where all is right
                      "#include \"{recorder}\"\nint main(void) {{\n{example}return 0;\n}}\n",
                      "gcc -std=c99 -Wall -Wextra -Werror -o head {source} && ./head"),
     "domepeeler.el": ("  (let* ((recording", "    (princ (domepeeler-explain", ";; ", "(load \"{recorder}\" nil t)\n{example}",
@@ -2440,20 +2466,25 @@ def check_heads(tally: Tally, program: str, folder: Path) -> None:
     """The example in the head of a recorder runs as it stands there, and is accepted without warnings."""
     place = folder / "heads"
     place.mkdir()
+    with_lost = {"domepeeler.h": ('"a", NULL, 0)', '"a", list, 1)')}  # by name: where the list shows the element after its delete
     for name, (first, last, mark, around, command) in HEADS.items():
         recorder = ROOT / "recorders" / name
         lines = [line[len(mark):] for line in recorder.read_text().splitlines() if line.startswith(mark)]
         begin = next(at for at, line in enumerate(lines) if line.startswith(first))
         end = next(at for at, line in enumerate(lines) if line.startswith(last))
         example = "".join(line + "\n" for line in lines[begin:end + 1])
-        example = example.replace("free(report)", "puts(report), free(report)").replace("free(words)", "puts(words), free(words)")
         source = place / f"head{recorder.suffix.replace('.h', '.c')}"
         source.write_text(around.format(recorder=recorder, example=example))
         done = subprocess.run(["sh", "-c", command.format(source=source.name)], cwd=place, capture_output=True, text=True,
                               env={**os.environ, "DOMEPEELER": program, "DOMEPEELER_EXPLAIN": EXPLAIN, "LC_ALL": "C.UTF-8"})
         trace = place / "session.trace"
-        tally.check(f"{name}: the example of its head", done.returncode == 0 and "accepted: " in done.stdout and
+        tally.check(f"{name}: the example of its head", done.returncode == 0 and ("accepted: " in done.stdout or name in with_lost and not done.stdout) and
                     "may hide" not in done.stdout and trace.is_file() and trace.read_text().endswith("0 read :\n1 read :\n"), done)
+        for there, program_of_it, words in ((program, "wrong", "contents 1.1\n"), (f"{place}/nowhere", "no program", "nowhere cannot be run")) if name in with_lost else ():
+            source.write_text(around.format(recorder=recorder, example=example.replace(*with_lost[name]) if program_of_it == "wrong" else example))
+            done = subprocess.run(["sh", "-c", command.format(source=source.name)], cwd=place, capture_output=True, text=True,
+                                  env={**os.environ, "DOMEPEELER": there, "DOMEPEELER_EXPLAIN": EXPLAIN})
+            tally.check(f"{name}: the example of its head, {program_of_it}", done.returncode == 1 and words in done.stdout, done)
         trace.unlink(missing_ok=True)
 
 
@@ -3075,7 +3106,7 @@ HEADERS = ["", "#include <stdio.h>\n#include <string.h>\n", "#include <unistd.h>
 STRICT = ["-Wall", "-Wextra", "-Wconversion", "-Wcast-qual", "-pedantic", "-Werror", "-fsyntax-only"]
 CHECKED = ['insert(d, 0, "a", 0, list, 1)', 'delete(d, 0, "a", list, 1)', "read(d, 0, list, 1)", "view(d, 0, list, 1)", "received(d, 1, 0, 1)",
            "received_clock(d, 1, 0, clock, 2, 1)", "clock(d, 0, clock)", "delivered(d, lists, names, 2)", 'note(d, "seed 17")', 'save(d, "x")',
-           "passes_weak(d, NULL)", "stop(d, 0, NULL, NULL)", *(f"{call}_from(__FILE__, __LINE__, d, {rest})" for call, rest in (
+           "passes(d, NULL)", "passes_weak(d, NULL)", "stop(d, 0, NULL, NULL)", *(f"{call}_from(__FILE__, __LINE__, d, {rest})" for call, rest in (
                ("insert", '0, "a", 0, list, 1'), ("delete", '0, "a", list, 1'), ("read", "0, list, 1"), ("view", "0, list, 1"),
                ("received", "1, 0, 1"), ("received_clock", "1, 0, clock, 2, 1"), ("delivered", "lists, names, 2")))]
 USES_C = """{}#include "{}"
@@ -3790,6 +3821,7 @@ def main() -> None:
         check_hostile_c(tally, Recorder("c", drivers["c"], program), folder)
         check_ignored_c(tally, program, folder)
         check_not_learned_c(tally, program, folder)
+        check_passes_c(tally, Recorder("c", drivers["c"], program), folder)
     tally.close()
 
 

@@ -66,6 +66,7 @@ def name_as_it_can_be(error: UnicodeError) -> tuple:
 def run_command(name: str, module: str) -> None:
     """Runs the command of this name, which is the `main` of a module here. A reader that has enough is no error to tell of, and nor is a
     user who stops it. What nobody has thought of is told, with where it was, and is no verdict."""
+    signal.signal(signal.SIGCHLD, signal.SIG_DFL)  # where it is ignored, as by a daemon that starts this, each status is 0
     for closed in [name for name in ("stdin", "stderr") if getattr(sys, name) is None]:
         setattr(sys, closed, open(os.devnull, "r" if closed == "stdin" else "w"))
     if sys.stdout is None:

@@ -14,7 +14,7 @@ from .cycle_picture import drawing
 from .debuggers import LANGUAGES, USUAL
 from .evidence import Evidence, Unexplained
 from .faulty_lines import about_fault
-from .files import MOST_BYTES, NO_SIDE, SIDE, Side, Unread, name_beside, read_both, shown, write_file, written_over
+from .files import MOST_BYTES, NO_SIDE, SIDE, SMALL_MARK, Side, Unread, name_beside, read_both, shown, trace_written_over, write_file, written_over
 from .kinds import ABOUT_KIND, HINT, KINDS, NoKind, hangs_on_kind, kind_asked
 from .page import page_of
 from .places import Beside, beside, placed_warnings, with_places
@@ -67,9 +67,10 @@ def fail(words: str) -> NoReturn:
 
 
 def check_outputs(asked: argparse.Namespace, inputs: list) -> None:
-    """Nothing is written over what is read, or twice into one file."""
+    """Nothing is written over what is read, or over another trace, or twice into one file."""
     small = [asked.small, asked.small + SIDE] if asked.small else []
-    why = written_over([*filter(None, [asked.html, asked.svg]), *small], inputs)
+    drawn = [*filter(None, [asked.html, asked.svg])]
+    why = written_over([*drawn, *small], inputs) or trace_written_over(drawn, asked.small)
     if why:
         fail(why)
     if asked.small and os.path.lexists(asked.small + SIDE) and not os.path.isfile(asked.small + SIDE):
@@ -120,9 +121,8 @@ def write_small(path: str, evidence: Evidence, told: Evidence, program: str, kno
     write(path, apart.back(small.text))
     lines = small.text.splitlines()
     placed = [f"{number} {known.places[line]}" for number, line in enumerate(small.lines, FIRST_ENTRY) if line in known.places]
-    beside_it = [*known.marks(small.lines), *placed]
-    if beside_it or os.path.isfile(path + SIDE):  # of a trace that was in this file before
-        write(path + SIDE, "".join(f"{line}\n" for line in [len(lines), *beside_it]))
+    if os.path.isfile(path):  # a pipe or a device has no file beside it
+        write(path + SIDE, "".join(f"{line}\n" for line in [len(lines), SMALL_MARK.decode(), *known.marks(small.lines), *placed]))
     print(f"\n{shown(path)} {same_as(evidence, told)} in {len(lines)} lines of {len(evidence.recording.lines)}. If you repeat these "
           "steps, your editor may answer otherwise. Operations, small = whole trace:")
     named = [f"{name} = {operation.name} (line {operation.line})" for name, operation in small.operations]

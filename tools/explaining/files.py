@@ -16,6 +16,9 @@ MOST_GROWN = 1 << 16  # bytes that a file may have grown by, and still be read i
 CHANGED, CHANGED_BESIDE = "it changed while it was judged", "the file beside it changed while it was judged"
 SIDE = ".lines"  # the end of the name of a file beside the trace, in whose first line a recorder says how many lines it saved
 MOST_BESIDE = 1 << 27  # bytes of such a file
+SMALL_MARK = b"small"  # a line there: the trace is one that --small wrote
+BEGINS = b"trace 1\n", b"trace 2\n"
+MOST_HEAD = 64  # bytes of what is looked at
 PACKED = ".gz", ".bz2", ".xz", ".zst", ".lz4"  # ends of names of compressed files
 ABSENT = [os.strerror(number) for number in (errno.ENOENT, errno.ENAMETOOLONG)]
 
@@ -112,10 +115,13 @@ def before(descriptor: int, path: str) -> Before:
 
 
 def name_beside(path: str) -> str:
-    """The name of the file beside a trace; of a link without one it is that beside the file which the link leads to."""
-    if os.path.islink(path) and not os.path.lexists(path + SIDE):
-        return os.path.realpath(path) + SIDE
-    return path + SIDE
+    """The name of the file beside a trace, in small letters or capitals; of a link without one it is that beside the file which the link leads
+    to."""
+    for name in (path, os.path.realpath(path)) if os.path.islink(path) else (path,):
+        for side in name + SIDE, name + SIDE.upper():
+            if os.path.lexists(side):
+                return side
+    return os.path.realpath(path) + SIDE if os.path.islink(path) else path + SIDE
 
 
 def side_of(path: str) -> Side:
@@ -156,6 +162,20 @@ def read_file(path: str, most: int = MOST_BYTES) -> bytes:
         os.close(descriptor)
 
 
+def head(path: str) -> bytes | None:
+    """The first bytes of a regular file; none where it can't be read."""
+    try:
+        descriptor = os.open(path, os.O_RDONLY | os.O_NONBLOCK | os.O_CLOEXEC)
+    except OSError:
+        return None
+    try:
+        return os.pread(descriptor, MOST_HEAD, 0) if stat.S_ISREG(os.fstat(descriptor).st_mode) else b""
+    except OSError:
+        return None
+    finally:
+        os.close(descriptor)
+
+
 def write_file(path: str, data: bytes) -> None:
     """Writes a file that appears whole or not at all; what is no regular file, as a pipe, is written to. OSError where it can't be."""
     try:
@@ -189,6 +209,29 @@ def same_file(path: str, other: str) -> bool:
         return os.path.samefile(path, other)
     except OSError:
         return os.path.realpath(path) == os.path.realpath(other)
+
+
+def is_trace(path: str) -> bool:
+    return (head(path) or b"").startswith(BEGINS)
+
+
+def is_small(path: str) -> bool:
+    """Whether the file beside a trace says that --small wrote it."""
+    try:
+        return SMALL_MARK in read_file(name_beside(path), MOST_BESIDE).split(b"\n")[1:2]
+    except Unread:
+        return False
+
+
+def trace_written_over(outputs: list, small: str | None = None) -> str:
+    """Why these can't be written, if they can't: an output is a trace, as the first of `--html *.trace` is; with `small` one that --small did
+    not write."""
+    for output in outputs:
+        if is_trace(output):
+            return f"{shown(output)} is a trace, so it is not written to"
+    if small and is_trace(small) and not is_small(small):
+        return f"{shown(small)} is a trace that --small did not write, so it is not written to"
+    return ""
 
 
 def written_over(outputs: list, inputs: list) -> str:

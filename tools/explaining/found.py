@@ -10,15 +10,13 @@ import time
 from pathlib import Path
 from typing import NamedTuple
 
-from .files import SIDE, Unread, read_file
+from .files import BEGINS, SIDE, Unread, head, is_small, is_trace, read_file
 
 TRACE = ".trace"  # in any case
 COMPRESSED = re.compile(r"(.*\.trace)\.(gz|bz2|xz|zst|zstd|lz4|lz|lzma|lzo|br|7z|rar|zip|z|tgz|tbz2?|txz|tar|tar\.[a-z0-9]+)", re.IGNORECASE | re.DOTALL)
 LOOKS_LIKE = re.compile(r"(.*\.trace)(?P<more>.+)", re.IGNORECASE | re.DOTALL)
 NUMBERED = re.compile(r"[.-][0-9]+")  # of a log that was rotated, or another session
 UNFINISHED = re.compile(r"\.(domepeeler|merge)-[^/]+")  # so a recorder or a tool names what it writes until it is whole
-BEGINS = b"trace 1\n", b"trace 2\n"
-MOST_HEAD = 64  # bytes of what is looked at
 SECONDS = 2.0  # that a file may take to be written
 NOTHING_THERE = [errno.ENOENT, errno.ENOTDIR, errno.ELOOP]  # behind a link
 LACKING = "a recorder was stopped while it wrote this, so a trace may be lacking: look whether it is, then remove this"
@@ -57,8 +55,10 @@ def found_in(folder: str, been: set) -> Found:
             found.traces.append(path[:-len(SIDE)])
         elif UNFINISHED.fullmatch(name):
             note(found, path, *unfinished(path))
-        elif name.lower().endswith(SIDE) or COMPRESSED.fullmatch(name):
-            continue  # what is wrong with it is told of its trace
+        elif name.lower().endswith(SIDE):  # what is wrong with it is told of its trace
+            note(found, path[:-len(SIDE)], True, RENAMED if is_of_renamed(path[:-len(SIDE)]) else "")
+        elif COMPRESSED.fullmatch(name):
+            continue  # likewise
         elif os.path.islink(path) and not os.path.exists(path):
             note(found, path, "." not in name, NOWHERE if "." not in name else NOWHERE_PASSED)
         elif like := LOOKS_LIKE.fullmatch(name):
@@ -81,6 +81,22 @@ def is_of_missing(name: str, names: list) -> bool:
     """Whether it stands beside a trace that is not there, packed or not: a recorder was stopped before it had put that there."""
     trace = name[:-len(SIDE)]
     return name.lower().endswith(TRACE + SIDE) and trace not in names and not any(other.startswith(trace) and COMPRESSED.fullmatch(other) for other in names)
+
+
+def is_of_renamed(path: str) -> bool:
+    """Whether a recorder saved a trace under this name, which is none of a trace, or has not more behind one: not a log of one replica, which is
+    merged with others, and not what --small wrote."""
+    name = os.path.basename(path)
+    return not name.lower().endswith(TRACE) and not LOOKS_LIKE.fullmatch(name) and is_trace(path) and not is_small(path) and not is_log(path)
+
+
+def is_log(path: str) -> bool:
+    """Whether the lines of a file that begins as a trace are of one replica of several, or there are none."""
+    try:
+        _, replicas, *lines = read_file(path).split(b"\n")
+    except Unread:
+        return False
+    return replicas != b"replicas 1" and len({line.partition(b" ")[0] for line in filter(None, lines)}) < 2
 
 
 def is_folder(path: str) -> bool:
@@ -119,17 +135,3 @@ def looking_like(path: str, trace: str, more: str) -> tuple:
     except Unread:
         is_same = False
     return not is_there or bool(NUMBERED.fullmatch(more) and not is_same), RENAMED
-
-
-def head(path: str) -> bytes | None:
-    """The first bytes of a regular file; none where it can't be read."""
-    try:
-        descriptor = os.open(path, os.O_RDONLY | os.O_NONBLOCK | os.O_CLOEXEC)
-    except OSError:
-        return None
-    try:
-        return os.pread(descriptor, MOST_HEAD, 0) if stat.S_ISREG(os.fstat(descriptor).st_mode) else b""
-    except OSError:
-        return None
-    finally:
-        os.close(descriptor)

@@ -12,7 +12,8 @@ import threading
 from .programs import TOOLS, Running
 from .rows import Row, row_of
 
-LOOK = "import sys; sys.path.insert(0, sys.argv[1]); from explaining.lookers import look; look()"
+# A module of the current folder, as `bisect.py`, is not taken for Python's own.
+LOOK = "import sys; sys.path[:] = [sys.argv[1], *filter(None, sys.path)]; from explaining.lookers import look; look()"
 
 
 def look() -> None:

@@ -13,7 +13,7 @@ from typing import NoReturn
 from .commands import Once, Parser, add_version
 from .elsewhere import NoParallel, judged_there, needs_parallel
 from .faulty_lines import ENTRIES
-from .files import SIDE, name_beside, shown, write_file, written_over
+from .files import SIDE, name_beside, shown, trace_written_over, write_file, written_over
 from .found import TRACE, Found, found_in
 from .judges import TooMany, judged_here
 from .junit import junit_of
@@ -227,7 +227,7 @@ def main() -> None:
         fail(str(error))
     found = below(asked.folders)
     files = found.traces
-    why = written_over([asked.junit], [program, *(name for file in files for name in (file, file + SIDE, name_beside(file)))]) if asked.junit else ""
+    why = written_over([asked.junit], [program, *(name for file in files for name in (file, file + SIDE, name_beside(file)))]) or trace_written_over([asked.junit]) if asked.junit else ""
     if why:
         fail(why)
     rows = in_order((judged(asked, program, files, jobs) if files else []) + [failed(path, 0.0, 2, words) for path, words in found.lacking])

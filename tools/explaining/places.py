@@ -4,8 +4,8 @@ the user's own notes.
 Its first line is how many lines the trace has. Behind it stands for each line of which that is known its number, a blank and the
 places. A line `language` and a word names the recorder's, and `note` and words are the user's. A line `delivered` and two numbers is a
 range of lines that the recorder's call of that name wrote, and `refused` and words say that calls were refused: what they say is not in
-the trace. A line `log` says that the places are lines of a log, whatever its name, and a line `merged` that merge.py wrote the trace. What
-is written otherwise is passed over, and so is the file of another trace."""
+the trace. A line `log` says that the places are lines of a log, whatever its name, a line `merged` that merge.py wrote the trace, and
+a line `small`, the second one, that --small did. What is written otherwise is passed over, and so is the file of another trace."""
 from __future__ import annotations
 
 import re
@@ -75,10 +75,12 @@ def printable(text: bytes) -> str:
 
 def lines_beside(trace: bytes, side: Side) -> list:
     """The lines of the file beside the trace, behind its first; none of another trace's. The last one may have been cut, if it has no
-    end; but that calls were refused is believed without one. No recorder writes more than two for each line of the trace, and some: what
+    end; but that calls were refused is believed without one, and where the first line is no count. No recorder writes more than two for each line of the trace, and some: what
     stands behind these is not looked at."""
     *lines, last = (side.content or b"").split(b"\n", 2 * trace.count(b"\n") + MOST_MARKS)
     lines += [last] if REFUSED.fullmatch(last) else []
+    if lines and not lines[0].strip().isdigit():
+        return list(filter(REFUSED.fullmatch, lines))
     return lines[1:] if lines and lines[0].strip() == b"%d" % trace.count(b"\n") else []
 
 

@@ -15,6 +15,7 @@ from .commands import Starting, Stopped
 from .files import shown
 
 VARIABLE = "DOMEPEELER"
+MOST_OF_VERSION = 60  # seconds in which a program says its version
 VERDICTS = {"accepted": 0, "refused": 1, "doubled": 1, "contents": 1, "position": 1}  # with the status by which the program ends
 COMMAND = "domepeeler"
 HEAD_LINES, RECEIPT = 2, re.compile(rb"\n[0-9]+ recv ")  # of a trace: lines before its entries, and what begins one that is no operation
@@ -76,15 +77,15 @@ def find_program(asked: str | None) -> str:
     raise NoProgram(f"no program found. {WAYS}")
 
 
-def run(program: str, words: list, trace: bytes) -> subprocess.CompletedProcess:
+def run(program: str, words: list, trace: bytes, seconds: float | None = None) -> subprocess.CompletedProcess:
     try:
-        return finished(program, words, trace)
+        return finished(program, words, trace, seconds)
     except OSError as error:
         raise NoProgram(f"{shown(program)} can't be run: {error.strerror}") from error
 
 
-def finished(program: str, words: list, trace: bytes) -> subprocess.CompletedProcess:
-    """A run of the program. Whatever ends the wait for it, a signal too, ends it."""
+def finished(program: str, words: list, trace: bytes, seconds: float | None) -> subprocess.CompletedProcess:
+    """A run of the program. Whatever ends the wait for it, a signal too, or the limit of time, ends it."""
     process = None
     try:
         with Starting():
@@ -94,7 +95,7 @@ def finished(program: str, words: list, trace: bytes) -> subprocess.CompletedPro
             raise Stopped(Starting.stop)
         if Running.is_stopped:
             raise NoProgram(STOPPED)
-        printed, errors = process.communicate(trace)
+        printed, errors = process.communicate(trace, seconds)
         return subprocess.CompletedProcess(process.args, process.returncode, printed, errors)
     except BaseException:
         if process is not None:
@@ -119,7 +120,10 @@ def judge(program: str, trace: bytes) -> Judged:
 
 def check_is_domepeeler(program: str) -> None:
     """NoProgram where the program, asked for its version, does not answer as domepeeler does: then its verdicts count for nothing."""
-    done = run(program, ["--version"], b"")
+    try:
+        done = run(program, ["--version"], b"", MOST_OF_VERSION)
+    except subprocess.TimeoutExpired:
+        raise NoProgram(f"{shown(program)} is not {COMMAND}: asked for its version it did not answer within {MOST_OF_VERSION} seconds") from None
     if done.returncode != 0 or not done.stdout.startswith(f"{COMMAND} ".encode()):
         said = next(filter(None, (done.stdout + done.stderr).decode(errors="replace").splitlines()), "")
         ended = f"it was {by_signal(-done.returncode)}" if done.returncode < 0 else f"it ended with status {done.returncode}"

@@ -13,7 +13,8 @@ Where a recording is not accepted the test fails, and its report has the explana
 fixtures record while they are torn down is judged too, when that is done; pytest tells it as an error of the test. The report of a
 test that fails by itself has the verdict on its recordings, accepted or not, in a section of its own, and they are saved. Where a test
 passes, the traces that it saved before are removed; and of what its accepted recordings may hide pytest warns, by `Unsure`. That a call was
-refused is no warning: the test fails; and at the end of its teardown, if an update was not causal and has not come by then. What a test
+refused is no warning: the test fails, also where a copy of the recording refused it, which a thread or a forked process has (of a pool whose
+workers are spawned its future alone tells); and at the end of its teardown, if an update was not causal and has not come by then. What a test
 records before it is skipped is judged too; not that of a test which is expected to fail, and does. What is recorded, refused or begun later
 still, as by a thread or a wider fixture, nothing has judged: it fails the run, if it comes before pytest has ended, or the worker of
 pytest-xdist that ran the test. So do recordings of a test that ends pytest, by `pytest.exit`; `os._exit` hides them, as it hides all else.
@@ -273,11 +274,11 @@ def told_of(item: pytest.Item, one: Judged, number: Optional[int], has_failed: b
     one.state = state_of(one.recording)
     try:
         report = one.recording.judge(weak=one.weak)
-        one.warnings = report["warnings"]
     except Exception as why:  # whatever it is, it is an error of this test alone
         told = f"The recording was not judged: {why}"
     else:
         is_passing = report["verdict"] == "accepted" or one.weak and report.get("weak") is True
+        one.warnings = report["warnings"] if is_passing else []
         one.is_weak_alone = is_passing and report["verdict"] != "accepted"
         refused = [line for line in one.state[1] if is_over or not line.startswith(NEVER_CAME)]
         if is_passing and not has_failed and not refused:

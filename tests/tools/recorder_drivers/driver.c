@@ -78,8 +78,8 @@ static void show(const char *text) {
     puts("ok");
 }
 
-static void weak(struct domepeeler *d) {
-    if (domepeeler_passes_weak(d, NULL)) puts("passes");
+static void passes(struct domepeeler *d, int is_weak) {
+    if (is_weak ? domepeeler_passes_weak(d, NULL) : domepeeler_passes(d, NULL)) puts("passes");
     else printf("fails %s\n", domepeeler_why(d));
 }
 
@@ -147,7 +147,7 @@ int main(void) {
         if (is("id_of")) printf(domepeeler_id_of(d, words[1]) ? "ok %s\n" : "none\n", domepeeler_id_of(d, words[1]));
         if (is("save")) save(d);
         if (is("judge")) judge(d);
-        if (is("weak")) weak(d);
+        if (is("weak") || is("passes")) passes(d, is("weak"));
         if (is("explain") || is("explain_weak")) explain(d, is("explain_weak"));
         if (is("text")) show(domepeeler_text(d));
     }

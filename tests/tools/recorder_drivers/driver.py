@@ -42,6 +42,9 @@ UNTYPED = [
     lambda: Recording(2, weak=True),
     lambda: Recording(2).read("::\x1b\n" + "1" * 41, []),
     lambda: Recording(2).received_changes(0, [("a", "ä\n")]),
+    lambda: Recording(2).read(0, {"b", "a"}),
+    lambda: Recording(2).view(0, frozenset({"b", "a"})),
+    lambda: Recording(2).delivered([[], {"b", "a"}]),
 ]
 
 
