@@ -59,7 +59,8 @@ BESIDE_DELETED = "0 ins b 0 : b|1 recv 0 1|1 ins c 1 : b c|0 recv 1 1|0 read : b
 def stop(line: int, doing: str, *others: int, together: int = 0) -> str:
     """The lines of an explanation that say where to stop a debugger; where receipts up to there stand together, from which line on."""
     before = ", ".join(f"line {other}" for other in others)
-    doing += f"; if nothing is wrong there, stop at {'another arrival' if len(others) == 1 else 'other arrivals'} ({before})" if others else ""
+    arrivals = ("another arrival", "other arrivals") if " applies " in doing else ("an arrival", "arrivals")
+    doing += f"; if nothing is wrong there, stop at {arrivals[len(others) > 1]} ({before})" if others else ""
     asked = f"if recording.lines() == {line - 1}: breakpoint()"
     where = "where your code reads the list" if "reads the list" in doing else "where your code has the editor apply a change, local or remote"
     or_first = f"; or {together - 1}, if one call wrote lines {together} to {line}" if together else ""
@@ -103,6 +104,10 @@ WORDS = [
      "Between the two it inserted c. Look at what decides which of b and a comes first: once both are inserted, it must never change, "
      "whatever is inserted, deleted or received later.|If that is not the cause: look at how the position that a user sees is mapped to a place in the editor's "
      "own list; and at whether the recorder writes the position that was asked for." + stop(5, "replica 0 inserts c", together=3)),
+    ("deletes of several of which the last was not done", 2, "0 ins a 0 : a|0 ins b 1 : a b|1 recv 0 2|1 read : a b|0 del a : b|0 del b :|1 recv 0 4|1 read : b",
+     "Where to look|0.3 (line 7) was done at replica 1, but not 0.4 (line 8), which was made directly behind. If one change of your editor deletes all of these, it looks as if it was applied "
+     "in part: look at what a replica does where one of several elements is gone already, or has not come yet; and, if the change waited, at whether it is asked again what is lacking when "
+     "one thing comes." + stop(9, "replica 1 applies 0.4")),
     ("deletes of several whose names are counted on from the first", 2, "0 ins x1 0 : x1|1 recv 0 1|1 ins y1 1 : x1 y1|1 ins z1 2 : x1 y1 z1|0 ins x2 1 : x1 x2|1 recv 0 2|1 read : x1 y1 z1 x2|"
      "1 del x1 : y1 z1 x2|1 del x2 : z1 x2",
      "Where to look|1.4 (line 10) and 1.5 (line 11) delete x1 and x2; but x2 is still shown, while y1 is gone. Look at which ids a local delete puts into the change that it sends: of "
@@ -219,11 +224,15 @@ WORDS = [
      stop(9, "replica 0 inserts d", 12, 10, 6)),
     ("a replica turns round what it reads, and has received nothing", 2, "0 ins a 0 : a|1 ins b 0 : b|0 recv 1 1|0 read : a b|1 recv 0 1|1 read : b a|1 read : a b", "Where to look|"
      "Replica 1 shows b before a in 1.2 (line 8), and a before b in 1.3 (line 9), though it received and changed nothing between. Something that is not recorded did that: behind a "
-     "server, perhaps its answer to the replica's own change. Then server and replica make different things of one change: look at which changes each of them adjusts it for. Client "
-     "and server must adjust alike, and each change once."),
+     "server or a relay, perhaps its answer to the replica's own change. Then one of the two lists is wrong: that of 1.2 (line 8), made when 0.1 came in line 7, or the one behind the "
+     "answer. Compare how an arriving change and the replica's own that are still on their way are moved over each other with how it is done for the answer, and on the server, if it "
+     "adjusts positions: which changes, each once, and which one comes first at an equal position."),
+    ("an insert beside what came since the last one", 2, "1 ins c 0 : c|0 ins a 0 : a|0 recv 1 1|0 read : a c|0 ins b 1 : a c b",
+     "found at: position 2||Where to look|c came to replica 0 in line 5, beside a, which the replica had inserted "
+     "itself before by 0.1 (line 4). Does the editor keep a place, or bounds, from its last insert? Then what arrives there must change these." + stop(7, "replica 0 inserts b", 5)),
     ("a read that has other elements, where nothing was received", 2, "0 ins a 0 : a|0 ins b 1 : a b|1 recv 0 2|1 read : a b|0 del a : b|1 recv 0 3|1 read : b|1 read : a", "Where to look|"
      "Replica 1 answered what is right in 1.2 (line 9), and has received nothing since. Look at what replica 1 itself does between the two; behind a server, at what its answer to the "
-     "replica's own change does there." + stop(10, "replica 1 reads the list")),
+     "replica's own change does there." + stop(10, "replica 1 reads the list", 8)),
     ("a beginning that shows something else", 3, f"{THREE_WAY}|1 recv 0 2|1 recv 2 1|1 read : a b",
      "refused 3: three responses can't be right together. Any two of them can. This is what went wrong first, within the "
      "first 11 lines: begin with it. The verdict on the whole trace is `refused 2`, told at the end.||"
@@ -469,8 +478,8 @@ WORDS = [
      "If the editor decides by numbers (a clock, ids) which of two inserts at one place comes first, look at theirs: a stands behind b, which replica 0 had already. The number that a has "
      "must be greater than that of b; perhaps it is not. Usual causes: the clock does not advance with each insert; ids are compared as text, so 10 comes before 9.|"),
     ("an own deleted element that comes back, and a list that heals", 2, "0 ins a 0 : a|1 ins r 0 : r|1 del r :|1 recv 0 1|1 read : r|1 read : a", "Where to look|"
-     "When the insert of a by 0.1 (line 3) came, r, which replica 1 had deleted itself (1.2 (line 5)), came back, and a is not there: perhaps that delete now hits it. Look at how the "
-     "replica's own changes that are still on their way are adjusted for what arrives, and at how it takes them back and applies them anew, if it does.|"),
+     "When the insert of a by 0.1 (line 3) came in line 6, r came back, which replica 1 had deleted itself by 1.2 (line 5), and a is not there: perhaps that delete now hits it. Look at how the "
+     "replica's own changes that are still on their way are adjusted for what arrives (each of two over the other as that was before), and at how it takes them back and applies them anew, if it does.|"),
     ("a wrong list that heals", 2, "0 ins a 0 : a|1 recv 0 1|1 read :|1 read : a", "Later replica 1 reads another list in 1.2 (line 6) than in 1.1 (line 5), though it received and changed nothing "
      "between. Something that is not recorded did that: behind a server, perhaps its answer to the replica's own change. Then server and replica make different things of one change: look "
      "at which changes each of them adjusts it for. Client and server must adjust alike, and each change once.|"),
@@ -1715,7 +1724,7 @@ def kinds(tally: Tally, program: str, folder: str) -> None:
     tally.check("kinds: of many", many.returncode == 1 and "rint both identifiers" in explained_there and "If the list is sorted" not in explained_there
                 and json.loads(many.stdout)["causes"] == ["concurrent", "identifiers"], (many, explained_there))
     turned = str(ROOT / "examples" / "prosemirror_text_changes_places.trace")
-    own = "the replica's own changes that are still on their way are adjusted for what arrives, and at how it takes them back and applies them anew"
+    own = "the replica's own changes that are still on their way are adjusted for what arrives (each of two over the other as that was before), and at how it takes them back and applies them anew"
     of_turned = {"": "(rebasing), look at where that puts them.", "neighbours": "once both are inserted, it must never change", "positions": f"Look at how {own}",
                  "identifiers": "Print the position identifiers of a, x and b at line 7."}
     for kind, wanted in of_turned.items():
@@ -1732,6 +1741,25 @@ def kinds(tally: Tally, program: str, folder: str) -> None:
     for kind in "neighbours", "positions":
         told = explain(program, ["--editor", kind, str(path)]).out.decode()
         tally.check(f"kinds: {kind}: a second delete", (nothing in told) == (kind == "positions") and ("deleted b instead of a" in told) == (kind == "neighbours"), told)
+    path.write_text(text_of(2, "0 ins t 0 : t|1 recv 0 1|1 ins s 0 : s t|1 ins x 0 : x s t|0 ins n 0 : n t|0 recv 1 2|0 read : n x s t|1 recv 0 2|1 read : x n s t"))
+    inside = "1.3 (line 11) shows [n] between [x] and [s], though [x] was put directly before [s] by 1.2 (line 6), which did not know of it. In a tree"
+    for kind in "neighbours", "tree":
+        told = explain(program, ["--editor", kind, str(path)]).out.decode()
+        tally.check(f"kinds: {kind}: what stands inside", (f"Where to look\n  {inside}" in told) == (kind == "tree") and ("Children of one parent must stand in one order" in told) == (
+            kind == "tree"), told)
+    path.write_text(text_of(2, "0 ins a 0 : a|1 recv 0 1|1 ins b 1 : a b|1 del b : a|0 ins c 1 : a c|1 recv 0 2|1 read : a b c"))
+    told = explain(program, ["--editor", "neighbours", str(path)]).out.decode()
+    tally.check("kinds: an own deleted element that comes back beside another", "Look at what the insert of c does there to the elements beside it: is a run (block) of them split" in told
+                and "in line 8, b came back, which replica 1 had deleted itself by 1.2 (line 6)" in told, told)
+    path.write_text(text_of(1, "0 ins a 0 : a|0 ins b 0 : a b"))
+    for kind, wanted in ("neighbours", "If the editor decides by numbers"), ("tree", "Look at where a new child is put: b stands behind a"), ("identifiers", "Print the position"), ("positions", "Look at how"):
+        first = explain(program, ["--editor", kind, str(path)]).out.decode().partition("Where to look\n  ")[2]
+        tally.check(f"kinds: {kind}: a position", first.startswith(wanted), first)
+    path.write_text(text_of(2, "0 ins a 0 : a|1 recv 0 1|1 read : a|1 del a :|0 ins c 1 : a c|1 ins b 0 : b|1 recv 0 2|1 read : b c|0 recv 1 3|0 read : c b"))
+    own = "When replica 1 inserted [b] (line 8), a had been deleted at its place."
+    for kind in "neighbours", "tree", "identifiers":
+        told = explain(program, ["--editor", kind, str(path)]).out.decode()
+        tally.check(f"kinds: {kind}: an own place", (f"Where to look\n  {own}" in told) == (kind != "identifiers") == ("; or before line 8, where replica 1 inserts b." in told), told)
     path.write_text(text_of(1, "0 ins a 0 : a"))
     tally.check("kinds: nothing of an accepted trace", hint not in explain(program, [str(path)]).out)
 

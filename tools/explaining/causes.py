@@ -33,6 +33,9 @@ NOT_APPLIED = ("It looks as if {changes} {were} not applied at replica {replica}
                "change is applied.{other}")
 OTHER_DELETE = (" Or it deleted another element, one that was already deleted there: look at how a replica that applies a delete finds the element (is the "
                 "whole id compared?).")
+WAITED_IN_PART = ("{first} {was} done at replica {replica}, but not {then}, which {were} made directly behind. If one change of your editor deletes all of these, it looks as if it was "
+                  "applied in part: look at what a replica does where one of several elements is gone already, or has not come yet; and, if the change waited, at whether it is asked again "
+                  "what is lacking when one thing comes.")
 IN_PART = ("{first} and {then} were made one after the other, and came to replica {replica} together; there {element} was deleted already, by {gone}, and {surplus} "
            "{is_} still shown. If one change of your editor deletes both, it looks as if it was applied in part: look at what a replica does where one of "
            "several elements is gone already; it must go on with the others.")
@@ -103,7 +106,7 @@ MAPPING = ("Look at how the position that a user sees is mapped to a place in th
            "recorder writes the position that was asked for.")
 ADJUSTS = "how what comes is adjusted there for the replica's own changes that are still on their way, and these for what comes."
 OWN_BACK_AGAIN = "When {came} came{line}, {back} came back, which replica {replica} had deleted itself by {delete}{lost}. Look at "
-OWN_ADJUSTED = "how the replica's own changes that are still on their way are adjusted for what arrives, and at how it takes them back and applies them anew, if it does."
+OWN_ADJUSTED = "how the replica's own changes that are still on their way are adjusted for what arrives (each of two over the other as that was before), and at how it takes them back and applies them anew, if it does."
 SHOWN_AGAIN = ("what applies that: is an element that is marked as deleted shown again, made anew by an insert that arrives a second time, or brought back by a state that "
                "is older than the delete?")
 SPLIT = ("what {new} does there to the elements beside it: is a run (block) of them split, or made anew, without the mark that they are deleted? Else look for a state that is older than "
@@ -123,10 +126,14 @@ NUMBERS = ("If the editor decides by numbers (a clock, ids) which of two inserts
 NUMBERS_TREE = ("Look at where a new child is put: {element} stands behind {passed}, which replica {replica} had already. Perhaps its parent is not the one that was meant; or the place beside a "
                 "sibling, with all that hangs on that, is not found; or siblings stand in the order of numbers, and the one of {element} is not greater than {theirs} (usual causes: "
                 "{causes}ids are compared as text).")
+KEPT_PLACE = ("{came} came to replica {replica} in line {line}, beside {own}, which the replica had inserted itself before by {insert}. Does the editor keep a place, or bounds, from its last "
+              "insert? Then what arrives there must change these.")
 CLOCK = {True: "the clock does not advance with each insert; ", False: "the clock does not advance when changes arrive; the replica's number is compared before the clock; "}
 BESIDE_DELETED = ("If inserts find their place by a neighbour, look at inserts beside deleted elements: {which}. If replicas throw "
                   "deleted elements away, nothing says then where the insert belongs; if they keep them, the search for its place must treat them like "
                   "elements that are shown.")
+OWN_PLACE = ("When replica {replica} inserted [{element}] (line {line}), {gone} had been deleted at its place. If deleted elements are kept, look at where its own list has the new one among "
+             "them: a local insert must find its place by the same search as an incoming one.")
 ARRIVED_BESIDE = "{element} came to replica {replica} in line {line}, where its {neighbours} {gone} had been deleted"
 HIDDEN_BESIDE = "{element} was put beside {gone}, which {were} deleted before {operation}"
 SEVERAL_DELETED = ("Look at positions beside deleted elements: any {fewer} of {named} fit together, all {k} don't; perhaps an insert lost its place "
@@ -160,7 +167,9 @@ BEHIND_DELETED = " Look also at inserts beside deleted elements: where [{behind}
 CONCURRENT = ("Look at the order of concurrent inserts: {first} and {then} were inserted{place} without knowing of each other, and were shown "
               "in two different orders.{rule}{print}")
 RULE = (" Use a rule that gives the same order everywhere (such as the replicas' numbers), also in special cases, as for appending; not the order in which each replica received them.")
-RULES = {"": RULE, NEIGHBOURS: RULE, POSITIONS: RULE, IDENTIFIERS: "",
+RULES = {"": RULE, NEIGHBOURS: RULE, IDENTIFIERS: "",
+         POSITIONS: " At an equal position the same one must come first on each client, and on the server if it adjusts positions: look at which one does, for what arrives and for the "
+                    "replica's own changes that are still on their way.",
          TREE: " Children of one parent must stand in one order everywhere (such as by the replicas' numbers), and each with all that hangs on it."}
 PRINT = {  # what tells a fault of what is sent from one of how it is applied
     "": "", POSITIONS: " Client and server must adjust alike, and each change once.",
@@ -189,9 +198,12 @@ SHOWN_ALONE = ("Replica {replica}, which inserted [{new}] ({insert}, line {line}
                "on it shows it {other_side} [{old}], as the others do. ")
 ANOTHER_PLACE = ("So the insert's change says another place than the one where the replica itself shows it: look at how a local insert is put into the list, and at what its change "
                  "carries.")
-MOVED_THEN = "Look first at what is done in line {receipt}: at how the replica's own changes that are still on their way are adjusted for what arrives, and at how it takes them back and applies them anew, if it does"
+MOVED_THEN = "Look first at what is done in line {receipt}: at how the replica's own changes that are still on their way are adjusted for what arrives (each of two over the other as that was before), and at how it takes them back and applies them anew, if it does"
 ALONE_BY = {"": ANOTHER_PLACE + " Or the insert was moved in line {receipt}, behind a server: then look at how the replica's own changes that are still on their way are adjusted for what arrives.",
             NEIGHBOURS: ANOTHER_PLACE, TREE: ANOTHER_PLACE, IDENTIFIERS: ANOTHER_PLACE, POSITIONS: MOVED_THEN + "; and then at what the insert's change carries."}
+ONE_IS_WRONG = ("behind a server or a relay, perhaps its answer to the replica's own change. Then one of the two lists is wrong: that of {before}{made}, or the one behind the answer. "
+                "Compare how an arriving change and the replica's own that are still on their way are moved over each other with how it is done for the answer{server}: which changes, each "
+                "once, and which one comes first at an equal position.")
 TURNED_BY_ITSELF = ("Replica {replica} shows {two} before {one} in {before}, and {one} before {two} in {after}, though it received and changed nothing between. Something that is not "
                     "recorded did that: ")
 MOVED_INSERT = ("If the editor sends positions, the position of {element} was perhaps not adjusted for {changes}, which replica {replica} "
@@ -227,7 +239,7 @@ def of_contents(evidence: Evidence) -> list:
     if misnamed(evidence):
         return misnamed(evidence)
     found = [*own_back(evidence), *applied_twice(evidence), *in_part(evidence), *wrong_delete(evidence, evidence.operations[0]), *second_delete(evidence), *overtaken(evidence), *lost_neighbour(evidence)]
-    found += too_much(evidence) if not found else []
+    found += too_much(evidence) or waited_in_part(evidence) if not found else []
     more = unlike_receipts(evidence) if all(cause.name in ("lost neighbour", "applied in part") for cause in found) else []
     is_loss_first = is_loss_likelier(evidence, found or more)
     found += more
@@ -275,6 +287,20 @@ def in_part(evidence: Evidence) -> list:
         return []
     told = IN_PART.format(first=at(other), then=at(change), replica=evidence.operations[0].replica, element=other.element, gone=at(gone),
                           surplus=listed(evidence.surplus, MOST_TOLD), is_="are" if evidence.surplus[1:] else "is")
+    return [Cause("applied in part", told)]
+
+
+def waited_in_part(evidence: Evidence) -> list:
+    """Of deletes that were not applied, though those that their author made directly before them were."""
+    left_out, added = evidence.otherwise
+    if added or not left_out or any(change.kind != "del" for change in left_out):
+        return []
+    operation = evidence.operations[0]
+    others = [other for other in evidence.made_before(left_out[0]) if other not in left_out and evidence.is_new(other)][::-1]
+    if not others or any(change not in evidence.made_before(left_out[-1]) for change in left_out[:-1]):
+        return []
+    told = WAITED_IN_PART.format(first=listed(list(map(at, others)), MOST_TOLD), was="were" if others[1:] else "was", replica=operation.replica,
+                                 then=listed(list(map(at, left_out)), MOST_TOLD), were="were" if left_out[1:] else "was")
     return [Cause("applied in part", told)]
 
 
@@ -537,23 +563,32 @@ def of_position(evidence: Evidence) -> list:
     first = reordered(evidence)
     if first:
         return [*first, Cause("mapping", otherwise("If that is not the cause", mapped))]
+    kept = kept_place(evidence)
     others = [other for other in response if other != name]
     at_most = min(operation.at, len(others))
     sorted_by = identifiers(operation, others[max(at_most - 1, 0):at_most], others[at_most:at_most + 1])
     if asked < 0 or name not in response or response.index(name) < asked:
-        return [Cause("mapping", mapped), *sorted_by]
+        return [*kept, Cause("mapping", mapped), *sorted_by]
     passed = response[asked:response.index(name)]
     theirs = "theirs" if passed[1:] else f"that of {passed[0]}"
     are_own = all(insert.replica == operation.replica for one in passed for insert in evidence.recording.inserts.get(one, []))
     gone = beside_gone(evidence, passed[0])
     if has_delete and is_younger_by_name(name, passed):
-        return [*gone, Cause("mapping", mapped), *sorted_by]
+        return [*gone, *kept, Cause("mapping", mapped), *sorted_by]
     numbers = Cause("numbers", (NUMBERS_TREE if evidence.kind == TREE else NUMBERS).format(element=name, passed=listed(passed, MOST_TOLD), replica=operation.replica, theirs=theirs, causes=CLOCK[are_own]))
-    told = [cause for cause in [*gone, numbers, *sorted_by] if is_possible(cause.name, evidence.kind)]
+    told = [cause for cause in [*gone, *kept, numbers, *sorted_by] if is_possible(cause.name, evidence.kind)]
     if not told:
         return [Cause("mapping", mapped)]
     instead = "If that is not the cause" if evidence.kind else "If neither fits your editor" if sorted_by else "If that does not fit your editor"
     return [*told, Cause("mapping", otherwise(instead, mapped))]
+
+
+def kept_place(evidence: Evidence) -> list:
+    """Of a wrong position, that an element came to the replica since its last insert, and stands beside what that inserted, where the new one was to stand."""
+    if evidence.kept_place is None:
+        return []
+    receipt, name, last = evidence.kept_place
+    return [Cause("kept place", KEPT_PLACE.format(came=name, replica=receipt.replica, line=receipt.line, own=last.element, insert=at(last)))]
 
 
 def beside_gone(evidence: Evidence, passed: str) -> list:
@@ -598,23 +633,36 @@ def identifiers(insert: Operation, before: list, behind: list) -> list:
     return [Cause("identifiers", IDENTIFIERS_OF.format(names=names, line=insert.line, element=insert.element))]
 
 
+def own_place(evidence: Evidence) -> list:
+    """Of an insert that was made where elements had been deleted: how its author placed it among these."""
+    if evidence.own_place is None or evidence.kind not in BY_ELEMENTS:
+        return []
+    insert, gone = evidence.own_place
+    return [Cause("own place", OWN_PLACE.format(replica=insert.replica, element=insert.element, line=insert.line, gone=listed(gone, MOST_TOLD)))]
+
+
 def put_inside(evidence: Evidence) -> list:
-    """In a tree, of what came last: that it stands between two elements of which one was put directly beside the other without knowing of it."""
+    """In a tree, of what came last: that it stands between two elements of which one was put directly beside the other, where that was not the
+    place of what came, and neither author knew of the other's."""
     if evidence.kind != TREE or not evidence.arrivals:
         return []
     receipt, new = evidence.arrivals[-1]
     operation = next((one for one in evidence.recording.streams[receipt.replica][receipt.before:] if one.kind != "view" and one.line <= evidence.last_line), None)
     shown = operation.response if operation is not None and operation.has_seen(new) else []
-    place = shown.index(new.element) if new.element in shown else 0
-    if not 0 < place < len(shown) - 1:
+    places = {name: place for place, name in enumerate(shown)}
+    own = [name for name in neighbours(new) if name in places]
+    if new.element not in places:
         return []
-    left, right = shown[place - 1], shown[place + 1]
-    for name, beside, side in (left, right, 1), (right, left, 0):
+    found = []
+    for name, place in places.items():
         insert = evidence.recording.inserts[name][0]
-        if neighbours(insert)[side] == beside and not new.has_seen(insert) and not insert.has_seen(new):
-            return [Cause("inside", INSIDE.format(operation=at(operation), new=new.element, left=left, right=right, one=name, side="before" if side else "behind", beside=beside,
-                                                  insert=at(insert)))]
-    return []
+        for side, beside in enumerate(neighbours(insert)):
+            first, last = sorted((place, places.get(beside, place)))
+            is_between = first < places[new.element] < last and not any(first <= places[one] <= last for one in own)
+            if is_between and not new.has_seen(insert) and not insert.has_seen(new):
+                found.append((last - first, place, INSIDE.format(operation=at(operation), new=new.element, left=shown[first], right=shown[last], one=name,
+                                                                 side="before" if side else "behind", beside=beside, insert=at(insert))))
+    return [Cause("inside", told) for *_, told in sorted(found)[:1]]
 
 
 def came_between(evidence: Evidence) -> list:
@@ -673,7 +721,7 @@ def of_refusal(evidence: Evidence, weak: bool) -> list:
         is_told = evidence.between is not None or bool(concurrent[1:]) and not is_gone
         causes = [concurrent, beside_deleted(evidence, is_told)]
         is_deleted_first = evidence.lost_neighbours and not are_put_at_once(first, then) and not is_told and not evidence.is_fine_beside_deleted
-        return [*turned_by_itself(evidence), *lost(evidence), *reordered(evidence), *came_between(evidence), *put_inside(evidence), *sum(causes[::-1] if is_deleted_first else causes, []), sorted_alike(evidence), *moved_insert(moved)]
+        return [*turned_by_itself(evidence), *lost(evidence), *reordered(evidence), *came_between(evidence), *put_inside(evidence), *own_place(evidence), *sum(causes[::-1] if is_deleted_first else causes, []), sorted_alike(evidence), *moved_insert(moved)]
     later, old = (first, then) if first.has_seen(then) else (then, first)
     moved = moved_over(evidence)
     told = seen(evidence, later, old, not (weak and moved))
@@ -750,7 +798,16 @@ def turned_by_itself(evidence: Evidence) -> list:
     if evidence.turned_by_itself is None:
         return []
     one, two, before, after = evidence.turned_by_itself
-    return [Cause("turned by itself", TURNED_BY_ITSELF.format(replica=after.replica, one=one, two=two, before=at(before), after=at(after)) + unrecorded(evidence))]
+    return [Cause("turned by itself", TURNED_BY_ITSELF.format(replica=after.replica, one=one, two=two, before=at(before), after=at(after)) + turned_then(evidence, before))]
+
+
+def turned_then(evidence: Evidence, before: Operation) -> str:
+    """What turned two elements round though nothing came."""
+    if not is_possible("positions", evidence.kind):
+        return BY_ITSELF
+    receipts = [receipt for receipt in evidence.recording.receipts[before.replica] if receipt.line < before.line]
+    made = f", made when {receipts[-1].seen.name} came in line {receipts[-1].line}" if receipts else ""
+    return ONE_IS_WRONG.format(before=at(before), made=made, server=", and on the server, if it adjusts positions")
 
 
 def settled_by_another(evidence: Evidence, first: Operation, then: Operation) -> list:

@@ -2,7 +2,7 @@
 from __future__ import annotations
 
 from .evidence import Evidence
-from .kinds import POSITIONS
+from .kinds import BY_ELEMENTS, POSITIONS
 from .recordings import FIRST_ENTRY, Operation, Receipt, Recording
 
 TITLE = "In a debugger"
@@ -11,7 +11,7 @@ MOST_OTHERS = 8  # lines where others arrived that are told
 LANGUAGES = {
     "python": ("Python", "if recording.lines() == {}: breakpoint()"),
     "javascript": ("JavaScript", "if (recording.lines() === {}) debugger"),
-    "rust": ("Rust", 'if recording.lines() == {} {{ eprintln!("here") }}, with a breakpoint on the eprintln'),
+    "rust": ("Rust", 'if recording.lines() == {} {{ eprintln!("here") }}, in three lines, with a breakpoint on the second'),
     "c": ("C", "if (domepeeler_lines(recording) == {}) raise(SIGTRAP);"),
     "emacs-lisp": ("Emacs Lisp", "(when (= (domepeeler-lines recording) {}) (debug))"),
 }
@@ -19,7 +19,7 @@ LANGUAGES = {
 FOR_TWO = {
     "python": "if recording.lines() in ({}, {}): breakpoint()",
     "javascript": "if ([{}, {}].includes(recording.lines())) debugger",
-    "rust": 'if [{}, {}].contains(&recording.lines()) {{ eprintln!("here") }}, with a breakpoint on the eprintln',
+    "rust": 'if [{}, {}].contains(&recording.lines()) {{ eprintln!("here") }}, in three lines, with a breakpoint on the second',
     "c": "if (domepeeler_lines(recording) == {} || domepeeler_lines(recording) == {}) raise(SIGTRAP);",
     "emacs-lisp": "(when (memq (domepeeler-lines recording) '({} {})) (debug))",
 }
@@ -30,7 +30,8 @@ BEGINS, READS = "where your code has the editor apply a change, local or remote"
 def stop_of(evidence: Evidence) -> tuple:
     """The entry before which to stop, and the others to try if that one goes right: of a refusal where its elements arrived, the last one
     first, else at its last response; of wrong contents where a second delete or what overtook a change arrived, or at what was received
-    first since the replica's operation before, if anything was; else at the operation that is named. None of another verdict."""
+    first since the replica's operation before, if anything was; else at the operation that is named, a read's also at what came last. Of a wrong
+    position, at the insert, and at what came beside the replica's last one. None of another verdict."""
     if evidence.report["verdict"] not in ("refused", "contents", "position"):
         return None, []
     if evidence.report["verdict"] == "refused":
@@ -52,8 +53,16 @@ def stop_of(evidence: Evidence) -> tuple:
         left_out, added = evidence.otherwise
         not_applied = [evidence.recording.arrival(change, named.replica) for change in left_out]
         received = [] if added and not left_out else evidence.before(named)[1]  # where a receipt is missing, none of these is at fault
-        return [*second, *overtaking, *not_applied, *received, named][0], []
-    return named, []
+        first = [*second, *overtaking, *not_applied, *received, named][0]
+        return first, last_arrival(evidence, named) if first is named and named.kind == "read" and not added else []
+    return named, [evidence.kept_place[0]] if evidence.kept_place else []
+
+
+def last_arrival(evidence: Evidence, read: Operation) -> list:
+    """The last receipt before a wrong read to whose replica nothing came since the response before, which was right."""
+    before, receipts = evidence.before(read)
+    came = [receipt for receipt in evidence.recording.receipts[read.replica] if receipt.line < read.line and not evidence.recording.is_delivered(receipt.line)]
+    return came[-1:] if before and not receipts else []
 
 
 def shown_alone(evidence: Evidence) -> Operation | Receipt | None:
@@ -90,9 +99,13 @@ def came_between(evidence: Evidence) -> Receipt | None:
 def told(evidence: Evidence, entry: Operation | Receipt, others: list) -> str:
     """Where to stop, in words."""
     before = ", ".join(f"line {other.line}" for other in others[:MOST_OTHERS])
-    then = f"; if nothing is wrong there, stop at {'another arrival' if len(others) == 1 else 'other arrivals'} ({before})" if others else ""
+    arrivals = ("another arrival", "other arrivals") if isinstance(entry, Receipt) else ("an arrival", "arrivals")
+    then = f"; if nothing is wrong there, stop at {arrivals[len(others) > 1]} ({before})" if others else ""
     if evidence.report["verdict"] == "contents" and evidence.undelivered:
         return followed(entry, evidence.operations[0].replica)
+    own = evidence.own_place if evidence.kind in BY_ELEMENTS else None
+    if own and own[0].line not in (entry.line, *(other.line for other in others)):
+        then += f"; or before line {own[0].line}, where {doing(own[0])}"
     return f"stop before line {entry.line} of the trace, where {doing(entry)}{then}."
 
 

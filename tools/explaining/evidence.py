@@ -11,6 +11,7 @@ from typing import NamedTuple
 from .recordings import FIRST_ENTRY, Operation, Receipt, Recording, place_asked
 from .telling import FIRST_STEPS, LAST_STEPS, MOST_STEPS
 
+MOST_LOOKED_AT = 20  # responses of an author before its insert
 ENOUGH_FINE = 3  # inserts beside deleted elements that went well
 MOST_ASTRAY = 20  # changes that may have been lost that are looked at
 MOST_ARRIVED = 6  # receipts that are told one by one
@@ -175,6 +176,51 @@ class Evidence:
             found += [(before, after) for before, after in zip(stream, stream[1:]) if after.line > line and after.kind == "read" and before.kind != "view"
                       and before.n not in received and after.response != before.response]
         return min(found, key=lambda pair: pair[1].line, default=None)
+
+    @cached_property
+    def own_place(self) -> tuple | None:
+        """Of a refusal of two, an insert at whose place its author had seen elements that were deleted by then, and these; best the one that was made last."""
+        if self.report.get("k") != 2:
+            return None
+        inserts = sorted((self.recording.inserts[name][0] for name in self.elements), key=lambda insert: -insert.line)
+        return next(((insert, gone) for insert in inserts if (gone := self.gone_at_place(insert))), None)
+
+    def gone_at_place(self, insert: Operation) -> list:
+        """The elements that were deleted for an insert, and that its author had shown between the two beside which it put the new one."""
+        place = insert.response.index(insert.element) if insert.element in insert.response else 0
+        left, right = insert.response[place - 1:place], insert.response[place + 1:place + 2]
+        gone = {name for name, deletes in self.recording.deletes.items() if any(map(insert.has_seen, deletes))}
+        for operation in reversed(self.recording.streams[insert.replica][max(insert.n - 1 - MOST_LOOKED_AT, 0):insert.n - 1]) if gone else []:
+            shown = operation.response
+            if operation.kind == "view" or not set(left + right) <= set(shown):
+                continue
+            first, last = shown.index(left[0]) + 1 if left else 0, shown.index(right[0]) if right else len(shown)
+            between = [name for name in shown[first:last] if name in gone]
+            if between:
+                return between
+        return []
+
+    @cached_property
+    def kept_place(self) -> tuple | None:
+        """Of a wrong position, where the replica's last insert stands at the place that was asked for: the receipt of an element beside it that came
+        since, that element, and that insert. Inserts directly before the wrong one, with nothing received between, are of one paste with it."""
+        operation = self.operations[0]
+        stream, received = self.recording.streams[operation.replica], {receipt.before for receipt in self.recording.receipts[operation.replica]}
+        n = operation.n - 1
+        while n and stream[n - 1].kind == "ins" and n not in received:
+            n -= 1
+        paste = {one.element for one in stream[n:operation.n - 1]}
+        last = next((one for one in reversed(stream[:n]) if one.kind == "ins"), None)
+        others = [name for name in operation.response if name != operation.element]
+        at_most = min(operation.at, len(others)) - sum(name in paste for name in others[:operation.at])
+        others = [name for name in others if name not in paste]
+        around = others[max(at_most - 1, 0):at_most + 1]
+        for name in around if last is not None and last.element in around else []:
+            insert = next(iter(self.recording.inserts.get(name, [])), last)
+            receipt = self.recording.arrival(insert, operation.replica) if insert.replica != operation.replica and not last.has_seen(insert) else None
+            if receipt is not None and receipt.line < operation.line:
+                return receipt, name, last
+        return None
 
     @cached_property
     def shown_up_to_last(self) -> list:
