@@ -24,7 +24,8 @@
  * Each call that a trace can't say answers 0 and leaves the recording as it was; domepeeler_why() then says why, and
  * domepeeler_full() whether it is that a limit of traces is reached: then end this session, and begin another. What was refused is
  * missing in the recording, so warnings and explanations begin with it. domepeeler_free() says on standard error where nothing has judged the
- * recording, explained it, saved it or taken its text since something was recorded or refused.
+ * recording, explained it, saved it or taken its text since something was recorded or refused. domepeeler_judge() answers the report as JSON,
+ * whatever the verdict is: a test that doesn't look at it passes.
  *
  * An editor with a server that orders changes (Jupiter and its kin) promises the weak list specification alone, and is right with
  * `refused 3` or more. For such a one ask, in the place of domepeeler_passes() and domepeeler_explain():
