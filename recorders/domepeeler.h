@@ -30,7 +30,7 @@
  * An editor with a server that orders changes (Jupiter and its kin) promises the weak list specification alone, and is right with
  * `refused 3` or more. For such a one ask, in the place of domepeeler_passes() and domepeeler_explain():
  *
- *     if (!domepeeler_passes_weak(recording, NULL)) puts(domepeeler_why(recording)); // and domepeeler_explain_weak() explains
+ *     if (!domepeeler_passes_weak(recording, NULL)) return puts(domepeeler_why(recording)), 1; // domepeeler_explain_weak() explains
  *
  * A recording passes then where weak holds; `contents`, `position`, `doubled` and `refused 2` still fail, and so do warnings.
  *

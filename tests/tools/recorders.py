@@ -2529,7 +2529,7 @@ def check_weak_heads(tally: Tally, program: str, folder: Path) -> None:
             done = subprocess.run([*words, source], cwd=place, capture_output=True, text=True, env={
                 **os.environ, "DOMEPEELER": program, "DOMEPEELER_EXPLAIN": EXPLAIN, "LC_ALL": "C.UTF-8", "PYTHONPATH": str(ROOT / "recorders")})
             said = done.stdout + done.stderr
-            told = not said and done.returncode == 0 if is_passing else any(words in said for words in (
+            told = not said and done.returncode == 0 if is_passing else done.returncode and any(words in said for words in (
                 "in the end replicas 0, 1 and 2 show different lists", "weak holds, strong doesn't, with three warnings"))
             tally.check(f"{name}: what its head says of weak, {'passing' if is_passing else 'with a warning'}", told, done)
 
