@@ -4,9 +4,9 @@
 //! without them. The parts that it shares with these are in `engines`.
 #![tactic(auto)]
 
-mod live;
+mod rehearsed;
 
-pub use live::{Lived, live};
+pub use rehearsed::{Lived, live};
 
 #[cfg(test)]
 mod tests;

@@ -1,7 +1,7 @@
 use Rattle.std.proofs.Common.{inl, inr, arith}
 use Rattle.std.proofs.lemmas.Result.{IfErr-weaker}
 use Rattle.live_engine.proofs.Sessions.{made-of, ended-by}
-use Rattle.live_engine.proofs.live.rehearsed_report.Goals as goal
+use Rattle.live_engine.proofs.rehearsed.rehearsed_report.Goals as goal
 
 pub returns : goal.returns
 returns g c =

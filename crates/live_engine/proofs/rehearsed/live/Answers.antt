@@ -4,7 +4,7 @@ use Rattle.engines.proofs.Failures.{handed-read, ok-is-err}
 use Rattle.engines.proofs.Written.{handed-on, written-on, front-on, report-on}
 use Rattle.live_engine.proofs.Sessions.{stalled-on, watched-on}
 use Rattle.engines.specs.Runs.{IsReportOf}
-use Rattle.live_engine.proofs.live.live.Goals as goal
+use Rattle.live_engine.proofs.rehearsed.live.Goals as goal
 
 pub returns-in-Ok-clause-report : goal.returns-in-Ok-clause-report
 returns-in-Ok-clause-report g c =
