@@ -1341,7 +1341,7 @@ def saved(tally: Tally, program: str, folder: str) -> None:
         tally.check(f"saved: {left} lines are left", wanted in warned(got) and got.status == 2 and got.out.decode().startswith(f"{NO_PASS}{wanted}\n"), got)
     recording.read(1, [])
     recording.save(str(path))
-    smaller = path.with_name("smaller.trace")
+    smaller = path.with_name("replaced.trace")
     smaller.write_text("trace 1\nreplicas 1\n")
     for beside in None, "2\n", "2\nnote small\n":
         if beside:
