@@ -20,6 +20,7 @@ from .recordings import FIRST_ENTRY, Operation, Receipt, Recording, place_asked
 
 MOST_MET = 3  # deletes that an insert met
 MOST_BESIDE_LOST = 4  # changes beside a lost one
+MOST_MORE = 20  # lines by which a small trace may be longer than twice the smallest
 LINE = re.compile(r"\bline (\d+)\b")  # of the trace, in the words of a cause
 
 
@@ -225,13 +226,18 @@ def smallest(evidence: Evidence, judge: Callable) -> Small | None:
     for projection in [*candidates(evidence, []), *(candidates(evidence, named) if named else [])]:
         small = projection.small()
         report = same_verdict(small, evidence, judge)
-        if report is not None and (not causes or first_cause(small, report, evidence) == causes[0].name):
+        if report is not None and is_short_beside(small, least) and (not causes or first_cause(small, report, evidence) == causes[0].name):
             return small
         least = least or (small if report is not None else None)
     if least is not None:
         return least
     small = whole(evidence).small()
     return small if same_verdict(small, evidence, judge) is not None else None
+
+
+def is_short_beside(small: Small, least: Small | None) -> bool:
+    """Whether a trace that keeps more for the sake of its words is small enough still."""
+    return least is None or len(small.lines) <= 2 * len(least.lines) + MOST_MORE
 
 
 def same_verdict(small: Small, evidence: Evidence, judge: Callable) -> dict | None:
