@@ -2188,7 +2188,7 @@ def many_deletes(tally: Tally, program: str, folder: str) -> None:
             ("one is lost", f"1 ins a 0 : a|1 ins b 1 : a b{deletes.replace(':', ': b')}{''.join(receipts[:2])}|0 read : a b{''.join(receipts[2:])}|0 read :",
              "contents 0.2: this response lacks one element that replica 0 should have had by then.", 12),
             ("one is shown again", f"1 ins a 0 : a{deletes}{receipts[0]}|0 read : a{''.join(receipts[1:-1])}|0 read : a",
-             "contents 0.2: this response has one element that should not be there.", 8)):
+             "contents 0.2: this response has one element that should not be there.", 12)):
         trace.write_text(text_of(2, entries))
         got, seconds, _ = used([EXPLAIN, "--program", program, "--html", f"{folder}/page.html", "--small", f"{folder}/small", str(trace)])
         tally.check(f"many deletes: {name}", got.status == 1 and got.out.decode().startswith(f"{said}\n") and f"in {lines} lines of".encode() in got.out
