@@ -34,6 +34,7 @@ sys.path[:0] = [str(ROOT / "recorders" / "engines"), str(ROOT / "recorders"), st
 import merge  # noqa: E402
 import sessions as exchanged  # noqa: E402
 from explaining import files, judges, lookers, rows  # noqa: E402
+from explaining.kinds import HINT  # noqa: E402
 from list_crdt import Group, play  # noqa: E402
 
 TOOL, EXPLAIN = str(ROOT / "tools" / "judge_many"), str(ROOT / "tools" / "explain")
@@ -203,7 +204,7 @@ def junit(tally: Tally, program: str, folder: str, other: str) -> None:
                     all(fault[2].startswith(begins) for fault in faults), faults)
         about = {"long.trace": " It is about a and b.", "with 'blanks' and $signs.trace": " It is about x, b and a."}.get(name, "")
         tally.check(f"JUnit: {name}: its elements", all(fault[2].endswith(about) for fault in faults), faults)
-        said = run(str(ROOT / "tools" / "explain"), ["--program", program, case.get("file")]).out.decode()
+        said = run(str(ROOT / "tools" / "explain"), ["--program", program, case.get("file")]).out.decode().replace(f"\n{HINT}\n", "")
         tally.check(f"JUnit: {name}: its explanation", all(fault.text == said for fault in case), [fault.text for fault in case])
     odd = Path(other, "odd")
     odd.mkdir()
@@ -621,7 +622,7 @@ def known_as_cut(tally: Tally, program: str, folder: str) -> None:
     tally.check("cut: an error in JUnit's file", {(name, error.get("type"), error.text) for name, error in errors.items() if name == "zz.trace"} == {
         ("zz.trace", "failed", told.partition(": ")[2])} and len(errors) == 2, errors)
     message, text = errors["bad.trace"].get("message"), errors["bad.trace"].text
-    explained = run(EXPLAIN, ["--program", program, f"{folder}/bad.trace"]).out.decode()
+    explained = run(EXPLAIN, ["--program", program, f"{folder}/bad.trace"]).out.decode().replace(f"\n{HINT}\n", "")
     tally.check("cut: JUnit's error of one that is wrong itself", errors["bad.trace"].get("type") == "failed" and message == left.partition(": ")[2] and
                 text == f"{message}\n{explained}" and explained.startswith("contents 0.2: "), text)
     alone = judge(program, [f"{folder}/bad.trace"])
@@ -2062,7 +2063,7 @@ def long_cycles(tally: Tally, program: str, folder: str) -> None:
         tally.check(f"long cycle of {k}: its row", got.status == 1 and not got.err and (row["verdict"], row["k"], row["fails_at"], row["lines"]) == (
             "refused", k, lines, lines), got.err)
         failure = xml.parse(f"{folder}/judged.xml").getroot().find("testsuite/testcase/failure")
-        said = run(str(ROOT / "tools" / "explain"), ["--program", program, str(trace)]).out.decode()
+        said = run(str(ROOT / "tools" / "explain"), ["--program", program, str(trace)]).out.decode().replace(f"\n{HINT}\n", "")
         tally.check(f"long cycle of {k}: JUnit", failure.text == said and said.startswith(f"refused {k}: ") and len(said) < 12_000
                     and failure.get("message").startswith(f"refused {k}: ") and len(failure.get("message")) < 500, failure.attrib)
         taken.append(seconds)
