@@ -137,6 +137,7 @@ TESTS = {
     "replay_with": ("sessions", "waiter_says_how_often"),
     "Registry::add": ("sessions", "registry_of_64"),
     "Registry::names": ("sessions", "registry_of_64"),
+    "live_engine::live": ("program", "live"),
     "rehearse": ("program", "live"),
     "rehearse_watched": ("program", "live"),
     "verdict_and_graph": ("certificate", "certificates_with_their_verdicts"),
