@@ -66,6 +66,8 @@ const WARNINGS: &str = "\nWhat this verdict may hide\n"; // a title in the expla
 const LAST: &str = "\nThe list specifications\n"; // that of the last section there
 const ONE_LOG: &str = "one replica's log is no recording: merge the logs first";
 const FAILED_TRACES: &str = "failed_traces"; // the folder of traces that were not accepted in tests
+const LETTERS_OF_HASH: usize = 16; // which cargo puts behind the name of a program of tests
+const RUNS: &str = ".runs"; // in it: for each run of tests a folder, with an empty file for each trace that it has saved
 const MOST_LINKS: usize = 40; // that are followed, one behind the other
 const MOST_NOTES: usize = 20;
 const MOST_LETTERS: usize = 200; // of a note
@@ -840,8 +842,9 @@ impl Recording {
     /// For a test: panics unless the program accepts the recording and no warning says what that may hide, with the warnings and the words
     /// of `explain`. It judges what is recorded by then: what comes later wants another call, without which the recording panics when it is
     /// dropped. It panics because `cargo test` hides what a test that passes writes to standard error. The trace is then saved below the
-    /// folder `failed_traces`, by the name of the test, and where no tool explains it, the verdict stands in the place of the words. Of a
-    /// recording of nothing it panics with the warning alone, and saves no trace.
+    /// folder `failed_traces`, by the name of the test, and where no tool explains it, the verdict stands in the place of the words. Where
+    /// another run of tests that is still at work has saved one by this name, that stays, and this one has `.run` and a number in its name. Of
+    /// a recording of nothing it panics with the warning alone, and saves no trace.
     #[track_caller]
     pub fn assert_accepted(&self) {
         self.assert_right(Verdict::is_accepted, &[]);
@@ -903,9 +906,10 @@ impl Recording {
         let ignored = Path::new(FAILED_TRACES).join(".gitignore");
         let saved = fs::create_dir_all(FAILED_TRACES)
             .and_then(|()| if ignored.exists() { Ok(()) } else { fs::write(ignored, "*\n") })
-            .and_then(|()| self.save(path));
+            .and_then(|()| marked(path))
+            .and_then(|path| self.save(&path).map(|()| path));
         match saved {
-            Ok(()) => format!("The trace is saved: {}", path.display()),
+            Ok(path) => format!("The trace is saved: {}", path.display()),
             Err(why) => format!("The trace can't be saved: {}: {why}", path.display()),
         }
     }
@@ -1620,16 +1624,24 @@ fn numbered(path: &Path, number: usize) -> PathBuf {
     path.with_file_name(format!("{name}-{number}.trace"))
 }
 
+/// The name of the program that runs.
+fn program() -> String {
+    std::env::current_exe().unwrap_or_default().file_stem().unwrap_or_default().to_string_lossy().into_owned()
+}
+
+/// Whether a program's name ends with a hash, as cargo puts it behind those of tests.
+fn has_hash(program: &str) -> bool {
+    let is_hash = |hash: &str| hash.len() == LETTERS_OF_HASH && hash.bytes().all(|byte| byte.is_ascii_hexdigit());
+    program.rsplit_once('-').map_or(false, |(_, hash)| is_hash(hash))
+}
+
 /// Where a test saves its trace: by the name of the program that runs it and its own, or by the line that asks if it has none. What an
 /// earlier run of the test saved there is removed when it first asks; later in the run it stays, as a property's smallest case may fail
 /// before others pass.
 fn failed_trace(caller: &Location) -> PathBuf {
     static ASKED: Mutex<Vec<PathBuf>> = Mutex::new(Vec::new());
-    let program = std::env::current_exe().unwrap_or_default();
-    let program = program.file_stem().unwrap_or_default().to_string_lossy();
-    let (name, hash) = program.rsplit_once('-').unwrap_or((&program, ""));
-    let is_hash = hash.len() == 16 && hash.bytes().all(|byte| byte.is_ascii_hexdigit()); // as cargo puts it there
-    let program = if is_hash { name } else { &program };
+    let program = program();
+    let program = if has_hash(&program) { &program[..program.len() - 1 - LETTERS_OF_HASH] } else { &program };
     let thread = std::thread::current();
     let test = thread.name().filter(|name| *name != "main").map(str::to_string);
     let test = test.unwrap_or_else(|| format!("line {}", caller.line()));
@@ -1638,18 +1650,97 @@ fn failed_trace(caller: &Location) -> PathBuf {
     let path = Path::new(FAILED_TRACES).join(name + ".trace");
     let mut asked = ASKED.lock().unwrap_or_else(|poisoned| poisoned.into_inner());
     if !asked.contains(&path) {
-        let mut old = path.clone();
-        for number in 2.. {
-            let is_removed = fs::remove_file(&old).is_ok(); // most often there is none
-            let _ = fs::remove_file(old.with_extension("trace.lines"));
-            if !is_removed && number > 2 {
-                break;
-            }
-            old = numbered(&path, number);
-        }
+        remove_saved(&path);
         asked.push(path.clone());
     }
     path
+}
+
+/// Removes what this test has saved, unless another run saved it that is still at work.
+fn remove_saved(path: &Path) {
+    let remove = |trace: &Path| {
+        let is_removed = fs::remove_file(trace).is_ok(); // most often there is none
+        let _ = fs::remove_file(trace.with_extension("trace.lines"));
+        is_removed
+    };
+    let mut old = path.to_path_buf();
+    for number in 2.. {
+        let is_left = is_of_another(&old) || remove(&old);
+        if !is_left && number > 2 {
+            break;
+        }
+        old = numbered(path, number);
+    }
+    let stem = path.file_stem().unwrap_or_default().to_string_lossy();
+    for file in fs::read_dir(FAILED_TRACES).into_iter().flatten().flatten() {
+        let name = file.file_name();
+        let run = name.to_str().and_then(|name| run_of(&stem, name));
+        if run.map_or(false, |run| run == this_run() || !is_at_work(run)) {
+            remove(&file.path());
+        }
+    }
+}
+
+/// The run of tests that saved a trace beside another run's, if the file of this name is such a trace of the test with this stem.
+fn run_of<'a>(stem: &str, name: &'a str) -> Option<&'a str> {
+    let (before, run) = name.strip_suffix(".trace")?.rsplit_once(".run")?;
+    let number = before.strip_prefix(stem)?;
+    (number.is_empty() || number.strip_prefix('-').map_or(false, is_number)).then_some(run).filter(|run| is_number(run))
+}
+
+fn is_number(text: &str) -> bool {
+    !text.is_empty() && text.bytes().all(|byte| byte.is_ascii_digit())
+}
+
+/// Where this run saves a trace, which it marks as its own: by another name where a run that is still at work has marked it. Each marks it
+/// before it looks, so that of two at the same time none takes what the other saves.
+fn marked(path: &Path) -> io::Result<PathBuf> {
+    let mark = mark_of(path, &this_run());
+    fs::create_dir_all(mark.parent().unwrap_or_else(|| Path::new("")))?;
+    fs::write(&mark, "")?;
+    if !is_of_another(path) {
+        return Ok(path.to_path_buf());
+    }
+    fs::remove_file(mark)?;
+    Ok(path.with_extension(format!("run{}.trace", this_run())))
+}
+
+fn mark_of(path: &Path, run: &str) -> PathBuf {
+    Path::new(FAILED_TRACES).join(RUNS).join(run).join(path.file_stem().unwrap_or_default())
+}
+
+/// Whether another run of tests that is still at work has marked this trace. What ended ones have marked is theirs no longer.
+fn is_of_another(path: &Path) -> bool {
+    let mut is_another = false;
+    for folder in fs::read_dir(Path::new(FAILED_TRACES).join(RUNS)).into_iter().flatten().flatten() {
+        let run = folder.file_name().to_string_lossy().into_owned();
+        if !is_at_work(&run) {
+            let _ = fs::remove_dir_all(folder.path()); // another may have done so
+        } else if run != this_run() && mark_of(path, &run).exists() {
+            is_another = true;
+        }
+    }
+    is_another
+}
+
+/// Which run of tests this process is of, by the number of a process: that of cargo, which begins one for each file of tests, or its own.
+fn this_run() -> String {
+    #[cfg(unix)]
+    if std::env::var_os("CARGO").is_some() && has_hash(&program()) {
+        return std::os::unix::process::parent_id().to_string();
+    }
+    std::process::id().to_string()
+}
+
+/// Whether the process of a run has not ended. Where neither a folder of processes nor `kill` says so, it has.
+fn is_at_work(run: &str) -> bool {
+    if Path::new("/proc/self/stat").exists() {
+        let state = fs::read_to_string(Path::new("/proc").join(run).join("stat")).unwrap_or_default();
+        return state.rsplit_once(") ").map_or(false, |(_, state)| !state.starts_with(['Z', 'X'])); // of which nobody has taken notice
+    }
+    let mut asking = Command::new("kill");
+    let asked = asking.args(["-0", run]).stdin(Stdio::null()).stdout(Stdio::null()).stderr(Stdio::null()).status();
+    asked.map_or(false, |ended| ended.success())
 }
 
 /// A name or an id for an error: a byte that is no printable ASCII stands as `\x1b`, and so does the first of `::` or `##` that begins it,

@@ -25,11 +25,13 @@
 // both, a recording is taken for accepted where weak holds; `contents`, `position`, `doubled` and `refused 2` still fail.
 import { executionAsyncResource } from "node:async_hooks"
 import { createHash } from "node:crypto"
-import { mkdir, rm, stat, writeFile } from "node:fs/promises"
+import { mkdir, readFile, readdir, rm, rmdir, stat, writeFile } from "node:fs/promises"
 import { basename, dirname, join, relative, resolve } from "node:path"
 import { NotAccepted as Stopped, Recording } from "./domepeeler.mjs"
 
 const FOLDER = "failed_traces", MOST_LETTERS = 150
+const RUNS = ".runs" // beside traces: for each run a folder, with an empty file for each trace that it has saved
+const RUN = process.env.NODE_TEST_CONTEXT?.startsWith("child") ? process.ppid : process.pid // Node's runner begins a process for each file
 const WEAK_ALONE = "weak holds, strong doesn't"
 const NEVER_CAME = "a call was refused, and what it says never came: " // so the recorder says of what may come still
 const FIRST_LINES = 2 // of each trace: its version, and how many replicas there are
@@ -75,19 +77,19 @@ export function recorded(replicas, body, { folder = FOLDER, weak = false, stop =
     const tell = (told) => `${test}: ${told}`.split("\n").forEach((line) => context.diagnostic(line)) // TAP shows each as one line
     const judge = async (isOver) => {
       const state = stateOf(recording)
-      const { told, warnings, isAlone } = await judged(recording, path, weak, { isOver })
+      const { told, warnings, isAlone } = await judged(recording, path, weak, { isOver, isOfRun: true })
       if (told || state.lines === FIRST_LINES) watched.delete(recording) // a test that fails has told enough
       if (told) throw new NotAccepted(told)
       if (isAlone) tell(WEAK_ALONE)
       if (state.lines === FIRST_LINES) throw new NotAccepted(warnings.join("\n"))
       watched.set(recording, { test, state })
       warnings.forEach(tell)
-      for (const left of [path, `${path}.lines`]) await rm(left, { force: true }).catch(() => {}) // most often there is none
+      await removeSaved(path)
     }
     try {
       await body(recording, context)
     } catch (why) {
-      tell((await judged(recording, path, weak, { hasFailed: true, known: why?.message })).told)
+      tell((await judged(recording, path, weak, { hasFailed: true, known: why?.message, isOfRun: true })).told)
       watched.delete(recording)
       throw why
     }
@@ -128,7 +130,7 @@ function isSame(one, other) {
 // The verdict on a recording in words, if these aren't known, which is then saved; nothing where it passes and no call was refused, unless its
 // test has failed by itself. Until all is over, an update that waits for another may come. And of what a verdict that passes warns, and whether
 // it passes since weak holds, though strong doesn't.
-async function judged(recording, path, weak, { hasFailed = false, known = "", isOver = true } = {}) {
+async function judged(recording, path, weak, { hasFailed = false, known = "", isOver = true, isOfRun = false } = {}) {
   let told, warnings = []
   try {
     const report = await recording.judge(null, { weak }), isAccepted = report.verdict === "accepted"
@@ -143,17 +145,77 @@ async function judged(recording, path, weak, { hasFailed = false, known = "", is
     told = `The recording was not judged: ${why.message}`
   }
   const words = told.trimEnd() === known ? "" : `${told.trimEnd()}\n\n`
-  return { told: words + await saved(recording, resolve(path)), warnings }
+  return { told: words + await saved(recording, resolve(path), isOfRun), warnings }
 }
 
-async function saved(recording, path) {
+async function saved(recording, asked, isOfRun) {
+  let path = asked
   try {
     await makeFolder(dirname(path))
+    if (isOfRun) path = await marked(path)
     await recording.save(path)
   } catch (why) {
     return `The trace can't be saved in ${path}: ${why.code}. It is:\n${recording.text()}`
   }
   return `The trace is saved: ${path}`
+}
+
+// Where this run saves a trace, which it marks as its own: by another name where a run that is still at work has marked it. Each marks it before
+// it looks, so that of two at the same time none takes what the other saves.
+async function marked(path) {
+  const mark = markOf(path, RUN)
+  const make = () => mkdir(dirname(mark), { recursive: true }).then(() => writeFile(mark, ""))
+  await make().catch(make) // another process of this run may just have removed the empty folder
+  if (!await isOfAnother(path)) return path
+  await unmark(path)
+  return path.replace(/\.trace$/, `-run${RUN}.trace`)
+}
+
+function markOf(path, run) {
+  return join(dirname(path), RUNS, String(run), basename(path, ".trace"))
+}
+
+// Removes this run's mark, and the folders of marks where they are empty now.
+async function unmark(path) {
+  const mark = markOf(path, RUN), folder = dirname(mark)
+  await rm(mark, { force: true }).catch(() => {})
+  for (const empty of [folder, dirname(folder)]) await rmdir(empty).catch(() => {})
+}
+
+// Whether another run that is still at work has marked this trace. What ended ones have marked is theirs no longer.
+async function isOfAnother(path) {
+  const folder = join(dirname(path), RUNS)
+  for (const run of await readdir(folder).catch(() => [])) {
+    if (!await isAtWork(run)) await rm(join(folder, run), { recursive: true, force: true }).catch(() => {})
+    else if (Number(run) !== RUN && await stat(markOf(path, run)).then(() => true, () => false)) return true
+  }
+  return false
+}
+
+// Whether the process of a run has not ended; nor is one left of which nobody has taken notice, where a folder of processes says so.
+async function isAtWork(run) {
+  const state = await readFile(`/proc/${run}/stat`, "latin1").catch(() => "")
+  if (state) return !/\) [XZ] [^)]*$/.test(state)
+  try {
+    return process.kill(Number(run), 0)
+  } catch (why) {
+    return why.code === "EPERM"
+  }
+}
+
+// Removes what this run, or one that has ended, saved of a test that passes now.
+async function removeSaved(path) {
+  const stem = `${basename(path, ".trace")}-run`
+  const isOfRun = (name) => name.startsWith(stem) && /^[0-9]+\.trace$/.test(name.slice(stem.length))
+  const isLeft = async (name) => name === `${stem}${RUN}.trace` || !await isAtWork(name.slice(stem.length, -".trace".length))
+  const remove = async (trace) => {
+    for (const left of [trace, `${trace}.lines`]) await rm(left, { force: true }).catch(() => {}) // most often there is none
+  }
+  if (!await isOfAnother(path)) await remove(path)
+  for (const name of (await readdir(dirname(path)).catch(() => [])).filter(isOfRun)) {
+    if (await isLeft(name)) await remove(join(dirname(path), name))
+  }
+  await unmark(path)
 }
 
 // Makes the folder, which Git then passes over. Another folder that is there already may hold what Git is to see.

@@ -13,6 +13,7 @@ import tempfile
 import time
 from concurrent.futures import ThreadPoolExecutor
 from pathlib import Path
+from typing import NamedTuple
 
 ROOT = Path(__file__).resolve().parents[2]
 sys.path[:0] = [str(ROOT / "tests"), str(ROOT / "tools")]
@@ -1200,7 +1201,7 @@ def check_again(tally: Tally, place: Place, name: str, words: list, folder: str,
         (kept / other).write_text("kept\n")
     done = place.run(words, folder)
     wanted = sorted(others + [one for one, is_left in traces.items() if is_left])
-    left = sorted(path.name for path in kept.iterdir() if not path.name.endswith(".trace.lines") and path.name != ".gitignore")
+    left = sorted(path.name for path in kept.iterdir() if not path.name.endswith(".trace.lines") and path.name not in (".gitignore", ".runs"))
     tally.check(f"{name}: left afterwards", left == wanted, (left, wanted, done.stdout))
     lines = [path.name for path in kept.iterdir() if path.name.endswith(".trace.lines") and not (kept / path.stem).is_file()]
     tally.check(f"{name}: no number of lines without its trace", lines == [], lines)
@@ -1314,7 +1315,7 @@ def check_python(tally: Tally, place: Place) -> None:
                 "test_nothing" in said and all(words in said for words in warnings_of("accepted", b"trace 1\nreplicas 2\n").all), said)
     check_ends_of_pytest(tally, place, [*command[:-1], "test_ends.py"])
     check_copies_of_pytest(tally, place, [*command[:-1], "test_copies.py"])
-    check_two_runs(tally, place, [*command[:-1], "test_runs.py"])
+    check_two_runs_of_pytest(tally, place, [*command[:-1], "test_runs.py"])
     check_weak_of_pytest(tally, place, [*command[:-1], "test_weak.py"])
     check_stop_of_pytest(tally, place, [*command[:-1], "test_stop.py"])
     check_beside(tally, place, "Python", [python, "-c", EXPLAINING["python"]], "python")
@@ -1523,7 +1524,7 @@ def check_cut_short(tally: Tally, place: Place, command: list) -> None:
     (place.folder / "python/test_cut.py").unlink()
 
 
-# A test that ends soon, and one that waits for the end of another run, where a variable says so; another says whether the list is lost.
+# In each: a test that ends soon, and one that waits for the end of another run, where a variable says so; another says whether the list is lost.
 TWO_RUNS = """
 import os
 import time
@@ -1543,28 +1544,97 @@ def test_last():
 """
 
 
-def check_two_runs(tally: Tally, place: Place, command: list) -> None:
-    """Of two runs of pytest in one folder neither overwrites or removes what the other has saved, whether both fail or one passes; a later run,
-    which is alone, removes all where the test passes."""
-    place.make("python/test_runs.py", TWO_RUNS)
-    folder = place.folder / "python/failed_traces"
-    for ways, more in (([], []), (["LOST"], []), ([], ["-n", "1"]), (["LOST"], ["-n", "1"])):
+TWO_RUNS_OF_NODE = """
+import { existsSync } from "node:fs"
+import { test } from "node:test"
+import { recorded } from "domepeeler/node_test"
+
+const { LOST, NAME, WAITS } = process.env
+const aWhile = () => new Promise((goOn) => setTimeout(goOn, 100))
+
+test("soon", recorded(1, (recording) => {
+  recording.insert(0, NAME, 0, LOST ? [] : [NAME])
+}))
+
+test("last", async () => {
+  for (let times = 0; times < 600; times += 1) {
+    if (!WAITS || existsSync("ended")) return
+    await aWhile()
+  }
+  throw new Error("the other run")
+})
+"""
+TWO_RUNS_OF_RUST = """
+use domepeeler::Recording;
+use std::{env, path::Path, thread, time::Duration};
+
+fn is_set(name: &str) -> bool {
+    env::var_os(name).is_some()
+}
+
+#[test]
+fn soon() {
+    let name = env::var("NAME").unwrap();
+    let mut recording = Recording::new(1).unwrap();
+    recording.insert(0, &name, 0, if is_set("LOST") { &[] } else { std::slice::from_ref(&name) }).unwrap();
+    recording.assert_accepted();
+}
+
+#[test]
+fn last() {
+    for _ in 0..600 {
+        if !is_set("WAITS") || Path::new("ended").exists() {
+            return;
+        }
+        thread::sleep(Duration::from_millis(100));
+    }
+    panic!("the other run");
+}
+"""
+
+
+class TwoRuns(NamedTuple):
+    """How tests are run in a folder, and which name the trace of the failing one has there; and behind that, where another run has it."""
+
+    name: str
+    words: list
+    folder: str
+    trace: str
+    run: str = "-run"
+
+
+def check_two_runs(tally: Tally, place: Place, runs: TwoRuns, more: list | None = None) -> None:
+    """Of two runs in one folder neither overwrites or removes what the other has saved, whether both fail or one passes; a later run, which is
+    alone, removes all where the test passes."""
+    folder, more = place.folder / runs.folder / "failed_traces", more or []
+    for ways in [], ["LOST"]:
         shutil.rmtree(folder, ignore_errors=True)
-        (place.folder / "python/ended").unlink(missing_ok=True)
+        (place.folder / runs.folder / "ended").unlink(missing_ok=True)
         with ThreadPoolExecutor(1) as pool:
-            first = pool.submit(place.run, [*command, *more], "python", LOST="1", NAME="first", WAITS="1")
-            while not first.done() and not list(folder.glob("*.trace")):
+            first = pool.submit(place.run, [*runs.words, *more], runs.folder, LOST="1", NAME="first", WAITS="1")
+            while not first.done() and not list(folder.glob("*.trace.lines")):
                 time.sleep(0.05)
-            second = place.run([*command, *more], "python", **dict.fromkeys(ways, "1"), NAME="second")
-            place.make("python/ended", "")
+            second = place.run([*runs.words, *more], runs.folder, **dict.fromkeys(ways, "1"), NAME="second")
+            place.make(f"{runs.folder}/ended", "")
         saved = {path.read_text().split()[6]: path for path in folder.glob("*.trace")}
-        name = f"two runs of pytest, {len(ways)} fails beside the first, {more}"
-        tally.check(f"{name}: each is told of, and kept", set(saved) == {"first", "second"} if ways else set(saved) == {"first"}, (saved, second.stdout))
-        tally.check(f"{name}: the names", saved.get("first", Path()).name == "test_runs.py--test_soon.trace" and f"The trace is saved: {saved['first']}\n" in first.result().stdout and
-                    (not ways or re.fullmatch(r"test_runs\.py--test_soon-run[0-9]+\.trace", saved["second"].name) is not None and
-                     f"The trace is saved: {saved['second']}\n" in second.stdout), (saved, first.result().stdout, second.stdout))
-        done = place.run(command, "python", NAME="third")
-        tally.check(f"{name}: a run alone that passes removes all", done.returncode == 0 and [path.name for path in folder.iterdir()] == [".gitignore"], list(folder.iterdir()))
+        name = f"two runs of {runs.name}, {len(ways)} fails beside the first, {more}"
+        told = {one: re.findall("The trace is saved: (.*)", done.stdout) for one, done in (("first", first.result()), ("second", second))}
+        tally.check(f"{name}: each is told of, and kept", set(saved) == {"first", *(["second"] if ways else [])} and
+                    all([Path(path).name for path in told[one]] == ([saved[one].name] if one in saved else []) for one in told), (saved, second.stdout))
+        tally.check(f"{name}: the names", saved.get("first", Path()).name == f"{runs.trace}.trace" and (not ways or re.fullmatch(
+            rf"{re.escape(runs.trace + runs.run)}[0-9]+\.trace", saved.get("second", Path()).name) is not None), saved)
+        done = place.run(runs.words, runs.folder, NAME="third")
+        left = [path.name for path in folder.iterdir() if path.name not in (".gitignore", ".runs")]
+        tally.check(f"{name}: a run alone that passes removes all", done.returncode == 0 and left == [], (left, done.stdout))
+
+
+def check_two_runs_of_pytest(tally: Tally, place: Place, command: list) -> None:
+    """Of two runs of pytest, also of its workers, as of others; and of workers which all run the same test."""
+    place.make("python/test_runs.py", TWO_RUNS)
+    runs, folder = TwoRuns("pytest", command, "python", "test_runs.py--test_soon"), place.folder / "python/failed_traces"
+    for more in [], ["-n", "1"]:
+        check_two_runs(tally, place, runs, more)
+        tally.check(f"two runs of pytest, {more}: nothing else is left", [path.name for path in folder.iterdir()] == [".gitignore"], list(folder.iterdir()))
     done = place.run([*command, "-k", "soon", "-n", "2", "--dist", "each"], "python", LOST="1", NAME="each")
     tally.check("pytest-xdist: each worker's trace has a name of its own", "2 failed" in done.stdout and len(list(folder.glob("*.trace"))) == 2, done.stdout)
 
@@ -1667,13 +1737,15 @@ def check_javascript(tally: Tally, place: Place) -> None:
         (place.folder / "packed/failed_traces" / name).read_text() == LOST_TRACE for name in kept) and
         all(name in done.stdout for name in kept), (kept, done.stdout))
     beside = {path.name: path.read_text().split("\n")[0] for path in (place.folder / "packed/failed_traces").iterdir()
-              if path.name not in [*kept, ".gitignore"]}
+              if path.name not in [*kept, ".gitignore", ".runs"]}
     tally.check("node --test: and the number of lines beside each", beside == {f"{name}.lines": "5" for name in kept}, beside)
     own = sorted(path.name for path in (place.folder / "packed/own").iterdir())
     hidden = f"Warning: a recording of own/right.trace is accepted, and may hide something: {NOTHING}"
     tally.check("node --test: of a property what may hide something is warned of once", done.stdout.count(hidden) == 1, done.stdout)
     tally.check("node --test: a path of its own", own == [".gitignore", "awaited.trace", "awaited.trace.lines"], own)
     check_ends_of_node(tally, place)
+    place.make("packed/runs.test.mjs", TWO_RUNS_OF_NODE)
+    check_two_runs(tally, place, TwoRuns("Node", ["node", "--test", "--test-reporter=tap", "runs.test.mjs"], "packed", "runs.test.mjs--soon"))
     check_weak_of_node(tally, place)
     check_stop_of_node(tally, place)
     place.make("folder/editor.test.mjs", NODE_TEST)
@@ -1848,6 +1920,10 @@ def check_rust(tally: Tally, place: Place) -> None:
     place.make("rust/src/bin/taking/take.rs", example("rust", "use domepeeler::{Recording, Refused};"))
     done = place.run(["cargo", "run", "--offline", "--quiet", "--bin", "taking"], "rust")
     tally.check("Rust: README's way for a network that delivers in any order", done.stdout == TAKEN, done.stdout)
+    place.make("rust/tests/runs.rs", TWO_RUNS_OF_RUST)
+    place.run(["cargo", "test", "--offline", "--quiet", "--test", "runs", "--no-run"], "rust")  # so that the two don't wait for this
+    check_two_runs(tally, place, TwoRuns("cargo", ["cargo", "test", "--offline", "--quiet", "--test", "runs"], "rust", "runs-soon", ".run"))
+    (place.folder / "rust/tests/runs.rs").unlink()
 
 
 def check_proptest(tally: Tally, place: Place) -> None:
