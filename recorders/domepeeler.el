@@ -40,7 +40,8 @@
 ;; Threads may share a recording: each call is whole before the next one begins.
 ;;
 ;; Each call that a trace can't say signals `domepeeler-refused', or `domepeeler-full' at a limit, and leaves the
-;; recording as it was.
+;; recording as it was.  A batch Emacs says as it ends if nothing has judged a recording, saved it or taken its text
+;; since something was recorded or refused.
 
 ;;; Code:
 
@@ -98,7 +99,28 @@ They are those that a replica lacks, or has made nothing of.")
   deliveries  ; of each call of `domepeeler-delivered' the first line that it wrote, and the last; the last call first
   (refused 0)  ; how many calls that record were refused, but at a limit, and but for those that were not causal
   first-refused  ; why the first of them was
-  open)  ; of each replica and author, as (REPLICA AUTHOR N WORDS), the last change that was not causal there, if it has not come since
+  open  ; of each replica and author, as (REPLICA AUTHOR N WORDS), the last change that was not causal there, if it has not come since
+  (mark (list nil)))  ; stands for it in `domepeeler--unread'
+
+(defvar domepeeler--unread (make-hash-table :test #'eq)
+  "The marks of recordings of which nobody knows whether they are right.
+Nobody has judged them, saved them or taken their text since something was
+recorded or refused.")
+
+(defun domepeeler--mark-unread (recording)
+  "From now on nobody knows whether RECORDING is right."
+  (puthash (domepeeler-recording-mark recording) t domepeeler--unread))
+
+(defun domepeeler--tell-unread ()
+  "Say as Emacs ends of how many recordings nobody knows that."
+  (let ((count (hash-table-count domepeeler--unread)))
+    (when (> count 0)
+      (message "domepeeler: nothing has judged %s since something was recorded or refused"
+               (if (= count 1) "a recording, saved it or taken its text"
+                 (format "%d recordings, saved them or taken their texts" count))))))
+
+(when noninteractive
+  (add-hook 'kill-emacs-hook #'domepeeler--tell-unread))
 
 (defmacro domepeeler--defun (name arguments doc &rest body)
   "Define NAME as `defun' does: a call on a recording, its first argument.
@@ -204,6 +226,7 @@ At a limit the session ends, and the caller knows it; and of what is not
 causal is known whether it comes later."
   (unless (memq (car why) '(domepeeler-full domepeeler-not-causal))
     (cl-incf (domepeeler-recording-refused recording))
+    (domepeeler--mark-unread recording)
     (unless (domepeeler-recording-first-refused recording)
       (setf (domepeeler-recording-first-refused recording) (nth 1 why)))))
 
@@ -399,6 +422,7 @@ It is the vector clock of an update that REPLICA makes now."
 
 (domepeeler--defun domepeeler-text (recording)
   "The trace of RECORDING; of one replica's log the text that merge.py takes."
+  (remhash (domepeeler-recording-mark recording) domepeeler--unread)
   (concat (string-join (reverse (domepeeler-recording-lines recording)) "\n") "\n"))
 
 (domepeeler--defun domepeeler-save (recording file)
@@ -768,8 +792,15 @@ direction of writing, nor what is no text."
         (aset others author (max n (aref others author)))
         (unless (equal others (domepeeler--replica-others own))
           (setf (domepeeler--replica-others own) others)))) ; a new vector, since the old one may be an operation's past
-    (push (format "%d recv %d %d" replica author n) (domepeeler-recording-lines recording))
-    nil))
+    (domepeeler--write recording (format "%d recv %d %d" replica author n))))
+
+(defun domepeeler--write (recording line)
+  "Add a LINE to the trace of RECORDING.  Answers nil.
+A session that is judged after each call lacks what was refused alone."
+  (push line (domepeeler-recording-lines recording))
+  (unless (domepeeler-recording-stop recording)
+    (domepeeler--mark-unread recording))
+  nil)
 
 (defun domepeeler--name (recording given)
   "The name of GIVEN in the trace.
@@ -869,7 +900,7 @@ A letter stands first, as `2-0' would look like an operation's name."
       (cl-incf (domepeeler--replica-entries own))
       (cl-incf (domepeeler--replica-inserts own) inserts)
       (setf (domepeeler--replica-places own) places)
-      (push (string-join (append (reverse words) (cons ":" shown)) " ") (domepeeler-recording-lines recording))
+      (domepeeler--write recording (string-join (append (reverse words) (cons ":" shown)) " "))
       (cl-incf (domepeeler--replica-operations own))
       (let ((n (domepeeler--replica-operations own))
             (changes (domepeeler--replica-changes own)))

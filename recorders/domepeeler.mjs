@@ -30,7 +30,8 @@
 // `new Recording(2, null, { stop: true })` judges the session after each call that takes a list, and throws NotAccepted in the call that
 // answered wrong; with `weak: true` too, in that after which weak doesn't hold.
 //
-// Each call that a trace can't say throws Refused, or Full at a limit, and leaves the recording as it was.
+// Each call that a trace can't say throws Refused, or Full at a limit, and leaves the recording as it was. When the program ends it says on
+// standard error if nothing has judged a recording, saved it or taken its text since something was recorded or refused.
 
 const MOST_REPLICAS = 16, MOST_ENTRIES = 16384, MOST_INSERTS = 4096
 const MOST_NAMES = 4096, MOST_PLACES = 262144, MOST_POSITION = 4294967295
@@ -66,6 +67,21 @@ const FRAME = /^ +at (?:async |.*\()?((?:[a-z]{2,}:\/\/|\/|[A-Za-z]:[\\/]).*:\d+
 const OWN = String(import.meta.url)
 // This file, and the helper that calls a test; as URLs, and as the paths that test runners with modules of their own have in stacks.
 const OWN_FILES = [OWN, OWN.replace(/[^/]*$/, "javascript/node_test.mjs")].flatMap((url) => [url, decodeURI(url.replace("file://", ""))])
+
+// By number of a recording, of those that nobody has judged, saved or taken the text of since something was recorded or refused: where the last line
+// came from.
+const unread = new Map()
+let begun = 0, hasFailed = false
+const { process: own } = globalThis
+own?.on?.("uncaughtExceptionMonitor", () => { hasFailed = true })
+own?.on?.("exit", () => {
+  if (!unread.size || hasFailed) return
+  const last = [...unread.values()].at(-1)
+  const [which, saved, taken] = unread.size === 1 ? ["a recording", "saved it", "taken its text"]
+    : [`${unread.size} recordings`, "saved them", "taken their texts"]
+  console.error(`domepeeler: nothing has judged ${which}, ${saved} or ${taken} since something was recorded or refused` +
+    (last ? `; the last line was recorded by ${own.getBuiltinModule ? placing(modulesAtOnce())(last) : last}` : ""))
+})
 
 /** No trace can say this. */
 export class Refused extends Error {}
@@ -103,6 +119,7 @@ export class Recording {
   #firstRefused = "" // the words of the first of them
   #open = new Map() // by replica and author the last change that was not causal there, if it has not come since, and why it was not
 
+  #number = begun++ // of `unread`
   #stop
   #weak
   #stopped = "" // what is wrong with the session, in words
@@ -297,6 +314,7 @@ export class Recording {
 
   /** The trace; of one replica's log the text that merge.py takes. */
   text() {
+    unread.delete(this.#number)
     return this.#lines.join("\n") + "\n"
   }
 
@@ -696,6 +714,7 @@ export class Recording {
       if ((why instanceof Full && !why.isWrong) || why instanceof NotCausal) throw why
       this.#firstRefused ||= why instanceof Refused ? why.message : escaped(String(why).slice(0, MOST_LETTERS)) // or what was given can't be looked at
       this.#refused += 1
+      this.#markUnread()
       throw why
     }
   }
@@ -716,6 +735,11 @@ export class Recording {
     this.#lines.push(line)
     this.#callers.push(this.#logLine ?? this.#callersHere())
     this.#hasLog ||= this.#logLine !== null
+    if (!this.#stop) this.#markUnread()
+  }
+
+  #markUnread() {
+    unread.set(this.#number, this.#callers.at(-1)?.[0])
   }
 
   // The nearest callers that are your code.

@@ -29,9 +29,12 @@ Threads may share a recording: each call is whole before the next one begins.
 `Recording(2, stop=True)` judges the session after each call that takes a list, and raises `NotAccepted` in the call that answered wrong;
 with `weak=True` too, in that after which weak doesn't hold.
 
-Each call that a trace can't say raises `Refused`, or `Full` at a limit, and leaves the recording as it was."""
+Each call that a trace can't say raises `Refused`, or `Full` at a limit, and leaves the recording as it was. When the program ends it says on
+standard error if nothing has judged a recording, saved it or taken its text since something was recorded or refused."""
 from __future__ import annotations
 
+import atexit
+import contextlib
 import errno
 import itertools
 import json
@@ -83,6 +86,9 @@ MOST_CHANGES = 3  # that are warned of one by one of those that a replica lacks,
 _FORKS: Dict[int, mmap.mmap] = {os.getpid(): mmap.mmap(-1, mmap.PAGESIZE)}
 _NOT_COPIED, _FORK, _COPY = range(3)  # such a byte: nobody did, a forked process, or who holds another copy
 _begun = itertools.count()
+# By recording, of those that nobody has judged, saved or taken the text of since something was recorded or refused: the process, and where the last
+# line came from.
+_UNREAD: Dict[int, Tuple[int, Callers]] = {}
 
 Clock = Union[Sequence[int], Mapping[int, int]]
 Words = Union[str, Sequence[str]]
@@ -182,7 +188,8 @@ class Recording:
         self._lock = threading.RLock()
         self._process = os.getpid()
         self._is_watched = self._is_copy = False  # whether something judges it, and will judge no copy; and whether it is such a copy
-        self._begun_by, self._slot = os.getpid(), next(_begun) % mmap.PAGESIZE  # of _FORKS
+        self._number = next(_begun)
+        self._begun_by, self._slot = os.getpid(), self._number % mmap.PAGESIZE  # of _FORKS
         if self._begun_by not in _FORKS:
             _FORKS.setdefault(self._begun_by, mmap.mmap(-1, mmap.PAGESIZE))
         _FORKS[self._begun_by][self._slot] = _NOT_COPIED
@@ -221,7 +228,7 @@ class Recording:
         return {**{name: value for name, value in vars(self).items() if name != "_lock"}, "_is_copy": self._is_watched}  # a copy has its own lock
 
     def __setstate__(self, state: Dict[str, Any]) -> None:
-        vars(self).update(state, _lock=threading.RLock(), _process=os.getpid())
+        vars(self).update(state, _lock=threading.RLock(), _process=os.getpid(), _number=next(_begun))
 
     @_alone
     def at(self, file: Union[str, "os.PathLike[str]", None] = None, line: int = 1) -> None:
@@ -357,6 +364,7 @@ class Recording:
     @_alone
     def text(self) -> str:
         """The trace; of one replica's log the text that merge.py takes."""
+        _UNREAD.pop(self._number, None)
         return "\n".join(self._lines) + "\n"
 
     @_alone
@@ -711,6 +719,11 @@ class Recording:
     def _note_refused(self, words: str) -> None:
         self._first_refused = self._first_refused or words
         self._refused += 1
+        self._mark_unread()
+
+    def _mark_unread(self) -> None:
+        if not self._is_watched:
+            _UNREAD[self._number] = self._process, self._callers[-1] if self._callers else ()
 
     def _refusals(self) -> List[str]:
         """That calls were refused, a line each, if what they say was not recorded later."""
@@ -746,6 +759,23 @@ class Recording:
         self._lines.append(line)
         self._callers.append(self._log_line or _callers())
         self._has_log = self._has_log or bool(self._log_line)
+        if not self._stop:
+            self._mark_unread()
+
+
+@atexit.register
+def _tell_unread() -> None:
+    """Says on standard error that of recordings of this process nobody knows whether they are right, unless the program ends by an error. One that is
+    judged after each call lacks what was refused alone."""
+    left = [callers for process, callers in _UNREAD.values() if process == os.getpid()]
+    if not left or hasattr(sys, "last_type"):
+        return
+    which, saved, taken = ("a recording", "saved it", "taken its text") if len(left) == 1 else (
+        f"{len(left)} recordings", "saved them", "taken their texts")
+    file, line = next(iter(left[-1]), ("", 0))
+    with contextlib.suppress(Exception):  # where nobody hears it, nothing is to be done
+        place = f"; the last line was recorded by {_place(file, line, _folder_here())}" if file else ""
+        print(f"domepeeler: nothing has judged {which}, {saved} or {taken} since something was recorded or refused{place}", file=sys.stderr, flush=True)
 
 
 def _callers() -> Callers:

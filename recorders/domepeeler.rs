@@ -1632,7 +1632,7 @@ fn program() -> String {
 /// Whether a program's name ends with a hash, as cargo puts it behind those of tests.
 fn has_hash(program: &str) -> bool {
     let is_hash = |hash: &str| hash.len() == LETTERS_OF_HASH && hash.bytes().all(|byte| byte.is_ascii_hexdigit());
-    program.rsplit_once('-').map_or(false, |(_, hash)| is_hash(hash))
+    matches!(program.rsplit_once('-'), Some((_, hash)) if is_hash(hash))
 }
 
 /// Where a test saves its trace: by the name of the program that runs it and its own, or by the line that asks if it has none. What an
@@ -1675,7 +1675,7 @@ fn remove_saved(path: &Path) {
     for file in fs::read_dir(FAILED_TRACES).into_iter().flatten().flatten() {
         let name = file.file_name();
         let run = name.to_str().and_then(|name| run_of(&stem, name));
-        if run.map_or(false, |run| run == this_run() || !is_at_work(run)) {
+        if matches!(run, Some(run) if run == this_run() || !is_at_work(run)) {
             remove(&file.path());
         }
     }
@@ -1685,7 +1685,8 @@ fn remove_saved(path: &Path) {
 fn run_of<'a>(stem: &str, name: &'a str) -> Option<&'a str> {
     let (before, run) = name.strip_suffix(".trace")?.rsplit_once(".run")?;
     let number = before.strip_prefix(stem)?;
-    (number.is_empty() || number.strip_prefix('-').map_or(false, is_number)).then_some(run).filter(|run| is_number(run))
+    let is_of_test = number.is_empty() || matches!(number.strip_prefix('-'), Some(number) if is_number(number));
+    (is_of_test && is_number(run)).then_some(run)
 }
 
 fn is_number(text: &str) -> bool {
@@ -1736,11 +1737,11 @@ fn this_run() -> String {
 fn is_at_work(run: &str) -> bool {
     if Path::new("/proc/self/stat").exists() {
         let state = fs::read_to_string(Path::new("/proc").join(run).join("stat")).unwrap_or_default();
-        return state.rsplit_once(") ").map_or(false, |(_, state)| !state.starts_with(['Z', 'X'])); // of which nobody has taken notice
+        return matches!(state.rsplit_once(") "), Some((_, state)) if !state.starts_with(['Z', 'X'])); // Z: nobody has taken notice
     }
     let mut asking = Command::new("kill");
     let asked = asking.args(["-0", run]).stdin(Stdio::null()).stdout(Stdio::null()).stderr(Stdio::null()).status();
-    asked.map_or(false, |ended| ended.success())
+    matches!(asked, Ok(ended) if ended.success())
 }
 
 /// A name or an id for an error: a byte that is no printable ASCII stands as `\x1b`, and so does the first of `::` or `##` that begins it,

@@ -1214,6 +1214,7 @@ recording = Recording(1)
 for at in range(6):
     if recording.lines() == 5: breakpoint()
     print(recording.read(0, []))
+recording.text()  # so that nothing is said at the end
 ''', "", [], [sys.executable, "stopping.py"]),
     "stopping.mjs": (f'''import {{ Session }} from "node:inspector"
 import {{ Recording }} from "{(ROOT / 'recorders').as_uri()}/domepeeler.mjs"
@@ -1226,6 +1227,7 @@ for (let at = 0; at < 6; at++) {{
   if (recording.lines() === 5) debugger
   console.log(recording.read(0, []))
 }}
+recording.text() // so that nothing is said at the end
 ''', "here", [], ["node", "stopping.mjs"]),
     "stopping.rs": (f'''#[path = "{ROOT / 'recorders'}/domepeeler.rs"]
 mod domepeeler;
@@ -1262,7 +1264,8 @@ int main(void) {{
 (let ((recording (domepeeler-new 1)))
   (dotimes (_ 6)
     (when (= (domepeeler-lines recording) 5) (debug))
-    (princ (format "%d\\n" (domepeeler-read recording 0 nil)))))
+    (princ (format "%d\\n" (domepeeler-read recording 0 nil))))
+  (domepeeler-text recording)) ; so that nothing is said at the end
 ''', "here", [], ["emacs", "-Q", "--batch", "-l", "stopping.el"]),
 }
 
@@ -1278,6 +1281,90 @@ def check_stopping(tally: Tally, folder: Path) -> None:
         done = subprocess.run(words, cwd=place, stdout=subprocess.PIPE, stderr=subprocess.STDOUT, text=True,
                               env={**os.environ, "PYTHONBREAKPOINT": "builtins.print"})
         tally.check(f"{name}: stops before line 6", done.stdout == f"1\n2\n3\n{stop}\n4\n5\n6\n", done)
+
+
+# Programs that record, and do with it what the variable WAY says.
+UNREAD = {
+    "unread.py": (f'''import os, sys
+sys.path.insert(0, "{ROOT / 'recorders'}")
+from domepeeler import Recording, Refused
+def begin():
+    recording = Recording(1)
+    recording.insert(0, "a", 0, ["a"])  # inserts
+    return recording
+way, recording = os.environ["WAY"], begin()
+if way == "two": begin()
+if way in ("text", "more", "refused", "nothing recorded", "stop"): recording.text()
+if way == "save": recording.save("unread.trace")
+if way == "judge": recording.judge()
+if way == "explain": recording.explain()
+if way == "more": recording.read(0, ["a"])  # reads
+if way == "refused":
+    try: recording.read(7, [])
+    except Refused: pass
+if way == "error": raise ValueError
+if way == "nothing recorded": Recording(1)
+if way == "stop": Recording(1, stop=True).read(0, [])
+if way == "fork":
+    if os.fork() == 0: sys.exit(0)
+    os.wait()
+''', [sys.executable, "unread.py"]),
+    "unread.mjs": (f'''import {{ Recording }} from "{(ROOT / 'recorders').as_uri()}/domepeeler.mjs"
+const begin = () => {{
+  const recording = new Recording(1)
+  recording.insert(0, "a", 0, ["a"]) // inserts
+  return recording
+}}
+const way = process.env.WAY, recording = begin()
+if (way === "two") begin()
+if (["text", "more", "refused", "nothing recorded", "stop"].includes(way)) recording.text()
+if (way === "save") await recording.save("unread.trace")
+if (way === "judge") await recording.judge()
+if (way === "explain") await recording.explain()
+if (way === "more") recording.read(0, ["a"]) // reads
+if (way === "refused") try {{ recording.read(7, []) }} catch {{}}
+if (way === "error") throw new Error("its own")
+if (way === "nothing recorded") new Recording(1)
+if (way === "stop") new Recording(1, null, {{ stop: true }}).read(0, [])
+''', ["node", "unread.mjs"]),
+    "unread.el": (f'''(load "{ROOT / 'recorders'}/domepeeler.el" nil t)
+(defun begin () (let ((recording (domepeeler-new 1))) (domepeeler-insert recording 0 "a" 0 \'("a")) recording))
+(let ((way (getenv "WAY")) (recording (begin)))
+  (when (string= way "two") (begin))
+  (when (member way \'("text" "more" "refused" "nothing recorded" "stop")) (domepeeler-text recording))
+  (when (string= way "save") (domepeeler-save recording "unread.trace"))
+  (when (string= way "judge") (domepeeler-judge recording))
+  (when (string= way "explain") (domepeeler-explain recording))
+  (when (string= way "more") (domepeeler-read recording 0 \'("a")))
+  (when (string= way "refused") (ignore-errors (domepeeler-read recording 7 nil)))
+  (when (string= way "nothing recorded") (domepeeler-new 1))
+  (when (string= way "stop") (domepeeler-read (domepeeler-new 1 nil t) 0 nil)))
+''', ["emacs", "-Q", "--batch", "-l", "unread.el"]),
+}
+UNREAD_WAYS = {  # with how many recordings nobody has read then, and which line recorded last
+    "nothing": (1, "inserts"), "two": (2, "inserts"), "text": (0, ""), "save": (0, ""), "judge": (0, ""), "explain": (0, ""), "more": (1, "reads"), "refused": (1, "inserts"),
+    "nothing recorded": (0, ""), "stop": (0, ""), "error": (0, ""), "fork": (1, "inserts")}
+UNREAD_TOLD = {0: "", 1: "domepeeler: nothing has judged a recording, saved it or taken its text since something was recorded or refused",
+               2: "domepeeler: nothing has judged 2 recordings, saved them or taken their texts since something was recorded or refused"}
+
+
+def check_unread(tally: Tally, program: str, folder: Path) -> None:
+    """A program that ends says of which recordings nobody knows whether they are right; but where it ends by an error, which is told alone. Each
+    process tells of its own. An Emacs Lisp program has no lines, and can't tell by which error it ends."""
+    place = folder / "unread"
+    place.mkdir()
+    surroundings = {**os.environ, "DOMEPEELER": program, "DOMEPEELER_EXPLAIN": EXPLAIN}
+    for name, (text, words) in UNREAD.items():
+        Path(place, name).write_text(text)
+        for way, (many, last) in UNREAD_WAYS.items():
+            if way not in text and way != "nothing":
+                continue
+            line = next((number for number, line in enumerate(text.splitlines(), 1) if re.search(f"(#|//) {last}$", line)), None) if last else None
+            wanted = UNREAD_TOLD[many] + (f"; the last line was recorded by {name}:{line}" if line else "") + ("\n" if many else "")
+            done = subprocess.run(words, cwd=place, capture_output=True, text=True, env={**surroundings, "WAY": way})
+            told = "".join(line for line in done.stderr.splitlines(True) if line.startswith("domepeeler: "))
+            tally.check(f"{name}: {way}: what nobody has read is told", told == wanted and (done.returncode == 0) == (way != "error") and
+                        (way == "error") == (done.stderr != told), done)
 
 
 def check_log_readers(tally: Tally, program: str, folder: Path) -> None:
@@ -2697,7 +2784,7 @@ def check_rust_tests(tally: Tally, program: str, folder: Path) -> None:
                 f"\nThe trace is saved: failed_traces/{weak[1].name}\n" in done.stdout, done)
     tally.check("Rust tests: where weak is enough, opposite orders fail", "\nrefused 2: " in done.stdout and
                 f"\nThe trace is saved: failed_traces/{weak[0].name}\n" in done.stdout, done)
-    tally.check("Rust tests: what is saved", sorted(path.name for path in saved.parent.iterdir()) == [
+    tally.check("Rust tests: what is saved", sorted(path.name for path in saved.parent.iterdir() if path.name != ".runs") == [
         ".gitignore", unsure.name, f"{unsure.name}.lines", saved.name, f"{saved.name}.lines",
         *sorted(f"{path.name}{end}" for path in weak for end in ("", ".lines"))] and
         saved.read_text().endswith("1 recv 0 1\n1 read :\n") and (saved.parent / ".gitignore").read_text() == "*\n", done)
@@ -2718,7 +2805,7 @@ def check_rust_tests(tally: Tally, program: str, folder: Path) -> None:
                     f"./liar ended with status {status} and printed a report that is not on this recording" in done.stdout, done)
     done = subprocess.run(["./editor-0123456789abcdef"], cwd=place, env=surroundings, capture_output=True, text=True)
     tally.check("Rust tests: one that passes removes what it saved before", "8 passed; 1 failed;" in done.stdout and
-                [path.name for path in saved.parent.iterdir()] == [".gitignore"], done)
+                [path.name for path in saved.parent.iterdir() if path.name != ".runs"] == [".gitignore"], done)
     need("clippy-driver", "rust-clippy")
     (place / "tests/domepeeler").mkdir(parents=True)
     shutil.copy(ROOT / "recorders/domepeeler.rs", place / "tests/domepeeler/mod.rs")
@@ -3808,6 +3895,7 @@ def main() -> None:
         check_users(tally, program, folder)
         check_grouped(tally, program, folder)
         check_stopping(tally, folder)
+        check_unread(tally, program, folder)
         check_log_readers(tally, program, folder)
         check_frames(tally, folder)
         check_limits_are_the_programs(tally, program, texts["py"])
