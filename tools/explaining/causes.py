@@ -107,6 +107,14 @@ MAPPING = ("Look at how the position that a user sees is mapped to a place in th
 ADJUSTS = "how what comes is adjusted there for the replica's own changes that are still on their way, and these for what comes."
 OWN_BACK_AGAIN = "When {came} came{line}, {back} came back, which replica {replica} had deleted itself by {delete}{lost}. Look at "
 OWN_ADJUSTED = "how the replica's own changes that are still on their way are adjusted for what arrives (each of two over the other as that was before), and at how it takes them back and applies them anew, if it does."
+OWN_ON_WAY = ("When {came} came{line}, replica {replica} had changes of its own on their way, which its author had not seen: {own}.{elsewhere} So {missing} perhaps came well, and one of these "
+              "deletes took {it} along{twice}. Look at ")
+SHOWN_ELSEWHERE = " Replica {other} received {same} too, and shows {missing} in {operation}."
+TWICE = ", as the one of {element}, which {other} deletes as well"
+OWN_GONE = ("Replica {replica} showed its own changes in {before}, and shows them no more: {own}.{came}{unknown} Look at what takes the place of its list, such as a state from elsewhere that was "
+            "made without them, or at how they are taken back and applied anew; and at what keeps own changes until they are confirmed, and when it lets go of them.")
+CAME_SINCE = " Since then it received {came}."
+OWN_UNKNOWN = " No other replica shows that it has them."
 SHOWN_AGAIN = ("what applies that: is an element that is marked as deleted shown again, made anew by an insert that arrives a second time, or brought back by a state that "
                "is older than the delete?")
 SPLIT = ("what {new} does there to the elements beside it: is a run (block) of them split, or made anew, without the mark that they are deleted? Else look for a state that is older than "
@@ -128,6 +136,8 @@ NUMBERS_TREE = ("Look at where a new child is put: {element} stands behind {pass
                 "{causes}ids are compared as text).")
 KEPT_PLACE = ("{came} came to replica {replica} in line {line}, beside {own}, which the replica had inserted itself before by {insert}. Does the editor keep a place, or bounds, from its last "
               "insert? Then what arrives there must change these.")
+STALE = ("[{element}] stands where position {at} was in {before}: since then replica {replica} received {came}. Does the editor keep something from before that, such as a place, an offset, an index "
+         "or a copy of the list? Then what arrives must change it, each kind of change.")
 CLOCK = {True: "the clock does not advance with each insert; ", False: "the clock does not advance when changes arrive; the replica's number is compared before the clock; "}
 BESIDE_DELETED = ("If inserts find their place by a neighbour, look at inserts beside deleted elements: {which}. If replicas throw "
                   "deleted elements away, nothing says then where the insert belongs; if they keep them, the search for its place must treat them like "
@@ -156,6 +166,9 @@ SETTLED_BY = {
     POSITIONS: "Where [{middle}] is deleted both stand at one position, and that does not tell which comes first: look at what an insert is adjusted for at an equal position, on the "
                "server and on each client, and whether a delete that came between is taken in the same order everywhere.",
 }
+HIDDEN_ORDER = ("[{new}] was put directly {side} {hidden} ({insert}), and {hidden} and [{old}] were inserted{place} without knowing of each other. {hidden} is deleted at replica {replica}, which never "
+                "showed both: perhaps it has these two in another order than replica {author}, and [{new}] follows {hidden} there. So look at the order of concurrent inserts, {hidden} and [{old}], "
+                "first: at what is done in {lines}.")
 PAST = ("If inserts find their place by a neighbour, look at how [{other}] found its place{there}: if the search goes past [{behind}], it must also go past all that was put "
         "behind [{behind}], also in the next block of a list that is kept in blocks.")
 INSIDE = ("{operation} shows [{new}] between [{left}] and [{right}], though [{one}] was put directly {side} [{beside}] by {insert}, which did not know of it. In a tree an element stands beside a "
@@ -238,9 +251,10 @@ def of_contents(evidence: Evidence) -> list:
         return [undelivered(evidence)]
     if misnamed(evidence):
         return misnamed(evidence)
-    found = [*own_back(evidence), *applied_twice(evidence), *in_part(evidence), *wrong_delete(evidence, evidence.operations[0]), *second_delete(evidence), *overtaken(evidence), *lost_neighbour(evidence)]
+    found = in_response(evidence)
     found += too_much(evidence) or waited_in_part(evidence) if not found else []
     more = unlike_receipts(evidence) if all(cause.name in ("lost neighbour", "applied in part") for cause in found) else []
+    more = [*(own_on_way(evidence) if not found else []), *more]
     is_loss_first = is_loss_likelier(evidence, found or more)
     found += more
     found = [*lost(evidence), *found] if is_loss_first else [*found, *lost(evidence)]
@@ -256,6 +270,14 @@ def of_contents(evidence: Evidence) -> list:
     these = "If none of these is the cause" if found[1:] else "If that is not the cause"
     last = instead(evidence, any(cause.name == "overtaken" for cause in found))
     return [*found, Cause("arrival", otherwise(these, last) if found else last)]
+
+
+def in_response(evidence: Evidence) -> list:
+    """The causes that an editor of this kind can have, of which the wrong response itself tells."""
+    own = own_gone(evidence)
+    found = [*own, *([] if own else own_back(evidence)), *applied_twice(evidence), *in_part(evidence), *wrong_delete(evidence, evidence.operations[0]), *second_delete(evidence),
+             *overtaken(evidence), *lost_neighbour(evidence)]
+    return [cause for cause in found if is_possible(cause.name, evidence.kind)]
 
 
 def instead(evidence: Evidence, is_overtaken: bool) -> str:
@@ -422,7 +444,7 @@ def changes_told(changes: list) -> dict:
 
 def wrong_delete(evidence: Evidence, operation: Operation) -> list:
     """Of a response that lacks one element, which nothing deletes and which was there before, and has one that was deleted for it since its
-    replica's response before, which was right; but views, which may leave out any. What it lacks came before that delete."""
+    replica's response before, which was right; but views, which may leave out any. What it lacks came before that delete, or where changes carry positions, its author had it."""
     if evidence.repeated or len(evidence.missing) != 1 or len(evidence.surplus) != 1:
         return []
     (missing,), (surplus,) = evidence.missing, evidence.surplus
@@ -430,6 +452,7 @@ def wrong_delete(evidence: Evidence, operation: Operation) -> list:
     before = [one for one in evidence.recording.streams[operation.replica][:operation.n - 1] if one.kind != "view"][-1:]
     news = [delete for delete in deletes if operation.has_seen(delete) and not any(one.has_seen(delete) for one in before)]
     is_new = before and any(evidence.is_new(insert) and evidence.line_at(insert, operation.replica) >= evidence.line_at(delete, operation.replica)
+                            and not (evidence.kind == POSITIONS and delete.has_seen(insert))
                             for insert in evidence.recording.inserts[missing] for delete in news[:1])
     earlier = [one for one in evidence.recording.deletes.get(missing, []) if one.line < operation.line]
     is_deleted = earlier and not all(evidence.otherwise)  # by what no receipt brings, and that alone tells it
@@ -463,7 +486,7 @@ def misnamed(evidence: Evidence) -> list:
 def too_much(evidence: Evidence) -> list:
     """Of a response that lacks what was there before, and has nothing that should not be there, where a delete came since, or is the response's own."""
     operation = evidence.operations[0]
-    before = next((one for one in reversed(evidence.recording.streams[operation.replica][:operation.n - 1]) if one.kind != "view"), None)
+    before = last_whole(evidence, operation)
     if before is None or evidence.repeated or evidence.surplus or not evidence.missing or not set(evidence.missing) <= set(before.response):
         return []
     deletes = [change for change in evidence.came_between(before, operation) if change.kind == "del"]
@@ -480,7 +503,7 @@ def too_much(evidence: Evidence) -> list:
 def own_back(evidence: Evidence) -> list:
     """Of a response that shows again what its replica had deleted itself, and had not shown before, where changes have come since."""
     operation = evidence.operations[0]
-    before = next((one for one in reversed(evidence.recording.streams[operation.replica][:operation.n - 1]) if one.kind != "view"), None)
+    before = last_whole(evidence, operation)
     came = evidence.came_between(before, operation) if before is not None else []
     deletes = [delete for name in evidence.surplus for delete in evidence.recording.deletes.get(name, [])
                if delete.replica == operation.replica and before is not None and before.has_seen(delete) and name not in before.response]
@@ -494,6 +517,55 @@ def own_back(evidence: Evidence) -> list:
     lost = OWN_LOST.format(missing=listed(evidence.missing, MOST_TOLD), is_="is" if is_one else "are", it="it" if is_one else "one of them") if evidence.missing else ""
     return [Cause("own back", OWN_BACK_AGAIN.format(came=named(came), back=listed(evidence.surplus, MOST_TOLD), replica=operation.replica,
                                                     delete=listed(list(map(at, deletes)), MOST_TOLD), lost=lost, line=line) + look)]
+
+
+def own_on_way(evidence: Evidence) -> list:
+    """Where changes carry positions, of a response that lacks what another replica shows that has it, where deletes of the replica's own had not
+    been seen by the author of what came last."""
+    operation = evidence.operations[0]
+    before = last_whole(evidence, operation)
+    came = evidence.came_between(before, operation) if before is not None else []
+    if evidence.kind != POSITIONS or not came or not evidence.missing or evidence.surplus or evidence.repeated:
+        return []
+    own = [change for change in evidence.recording.changes() if change.replica == operation.replica and change.line < operation.line and not came[-1].has_seen(change)]
+    deletes = [change for change in own if change.kind == "del"]
+    inserts = [evidence.recording.inserts[name][0] for name in evidence.missing]
+    if not deletes or any(insert.replica == operation.replica for insert in inserts):
+        return []
+    shown = next((one for stream in evidence.recording.streams for one in stream if one.replica not in (operation.replica, came[-1].replica) and one.has_seen(came[-1])
+                  and set(evidence.missing) <= set(one.response)), None)
+    elsewhere = SHOWN_ELSEWHERE.format(other=shown.replica, same=came[-1].name, missing=listed(evidence.missing, MOST_TOLD), operation=at(shown)) if shown else ""
+    both = next(((delete, other) for delete in deletes for other in came if other.kind == "del" and other.element == delete.element), None)
+    arrival = evidence.recording.arrival(came[-1], operation.replica)
+    is_one = not evidence.missing[1:]
+    return [Cause("own on way", OWN_ON_WAY.format(
+        came=came[-1].name, line=f" in line {arrival.line}", replica=operation.replica, own=named(own), elsewhere=elsewhere, missing=listed(evidence.missing, MOST_TOLD),
+        it="it" if is_one else "them", twice=TWICE.format(element=both[0].element, other=at(both[1])) if both else "") + OWN_ADJUSTED)]
+
+
+def last_whole(evidence: Evidence, operation: Operation) -> Operation | None:
+    """The replica's operation before this one that answered the whole list, if there is one."""
+    return next((one for one in reversed(evidence.recording.streams[operation.replica][:operation.n - 1]) if one.kind != "view"), None)
+
+
+def own_gone(evidence: Evidence) -> list:
+    """Of a response that lacks inserts of its replica's own which it had shown, and has again what it had deleted itself, several changes in all, and
+    nothing else is wrong, though no delete has come since."""
+    operation = evidence.operations[0]
+    before = last_whole(evidence, operation)
+    if before is None or not evidence.missing or evidence.repeated or operation.element:
+        return []
+    inserts = [insert for name in evidence.missing for insert in evidence.recording.inserts[name]]
+    deletes = [delete for name in evidence.surplus for delete in evidence.recording.deletes.get(name, []) if operation.has_seen(delete)]
+    own = sorted([*inserts, *deletes], key=lambda change: change.line)
+    came = evidence.came_between(before, operation)
+    is_own = len(own) > 1 and all(change.replica == operation.replica for change in own) and len(deletes) == len(evidence.surplus) and set(evidence.missing) <= set(before.response)
+    if not is_own or any(change.kind == "del" for change in came) or set(evidence.surplus) & set(before.response):
+        return []
+    others = [one for stream in evidence.recording.streams for one in stream if one.replica != operation.replica]
+    is_unknown = not any(one.has_seen(change) for one in others for change in own)
+    return [Cause("own gone", OWN_GONE.format(replica=operation.replica, before=at(before), own=named(own), unknown=OWN_UNKNOWN if is_unknown else "",
+                                              came=CAME_SINCE.format(came=named(came)) if came else ""))]
 
 
 def healed(evidence: Evidence) -> list:
@@ -522,7 +594,7 @@ def replaced(evidence: Evidence) -> list:
     """Of a response that lacks what its replica showed before, and has nothing that should not be there, where changes have come since, and no
     delete among them."""
     operation = evidence.operations[0]
-    before = next((one for one in reversed(evidence.recording.streams[operation.replica][:operation.n - 1]) if one.kind != "view"), None)
+    before = last_whole(evidence, operation)
     if before is None or evidence.surplus or not evidence.missing or not set(evidence.missing) <= set(before.response) or operation.kind != "read":
         return []
     came = evidence.came_between(before, operation)
@@ -564,19 +636,20 @@ def of_position(evidence: Evidence) -> list:
     if first:
         return [*first, Cause("mapping", otherwise("If that is not the cause", mapped))]
     kept = kept_place(evidence)
+    stale = [] if kept else stale_place(evidence)
     others = [other for other in response if other != name]
     at_most = min(operation.at, len(others))
     sorted_by = identifiers(operation, others[max(at_most - 1, 0):at_most], others[at_most:at_most + 1])
     if asked < 0 or name not in response or response.index(name) < asked:
-        return [*kept, Cause("mapping", mapped), *sorted_by]
+        return [*kept, *stale, Cause("mapping", mapped), *sorted_by]
     passed = response[asked:response.index(name)]
     theirs = "theirs" if passed[1:] else f"that of {passed[0]}"
     are_own = all(insert.replica == operation.replica for one in passed for insert in evidence.recording.inserts.get(one, []))
     gone = beside_gone(evidence, passed[0])
     if has_delete and is_younger_by_name(name, passed):
-        return [*gone, *kept, Cause("mapping", mapped), *sorted_by]
+        return [*gone, *kept, *stale, Cause("mapping", mapped), *sorted_by]
     numbers = Cause("numbers", (NUMBERS_TREE if evidence.kind == TREE else NUMBERS).format(element=name, passed=listed(passed, MOST_TOLD), replica=operation.replica, theirs=theirs, causes=CLOCK[are_own]))
-    told = [cause for cause in [*gone, *kept, numbers, *sorted_by] if is_possible(cause.name, evidence.kind)]
+    told = [cause for cause in [*gone, *kept, numbers, *sorted_by, *stale] if is_possible(cause.name, evidence.kind)]
     if not told:
         return [Cause("mapping", mapped)]
     instead = "If that is not the cause" if evidence.kind else "If neither fits your editor" if sorted_by else "If that does not fit your editor"
@@ -589,6 +662,15 @@ def kept_place(evidence: Evidence) -> list:
         return []
     receipt, name, last = evidence.kept_place
     return [Cause("kept place", KEPT_PLACE.format(came=name, replica=receipt.replica, line=receipt.line, own=last.element, insert=at(last)))]
+
+
+def stale_place(evidence: Evidence) -> list:
+    """Of a wrong position, that it led to the same place in a list that the replica showed before others' changes came."""
+    if evidence.stale_place is None:
+        return []
+    before, came = evidence.stale_place
+    operation = evidence.operations[0]
+    return [Cause("stale place", STALE.format(element=operation.element, at=operation.at, before=at(before), replica=operation.replica, came=named(came)))]
 
 
 def beside_gone(evidence: Evidence, passed: str) -> list:
@@ -733,7 +815,7 @@ def of_refusal(evidence: Evidence, weak: bool) -> list:
     names = [name for name in later.response if name in beside or name == old.element]
     sorted_by = identifiers(later, names[:names.index(later.element)], names[names.index(later.element) + 1:])
     alone = shown_alone(evidence)
-    turned = reordered(evidence) if not alone or evidence.kind != POSITIONS else []  # that is told already
+    turned = reordered(evidence) if not alone else []  # that is told already
     if turned and evidence.kind == POSITIONS:
         return [*turned_by_itself(evidence), *lost(evidence), *turned, *moved_insert(moved)]
     if turned and first.replica == then.replica == evidence.reordered[3].replica:
@@ -741,13 +823,39 @@ def of_refusal(evidence: Evidence, weak: bool) -> list:
     else:
         last = Cause("seen", told)
     gone = beside_deleted(evidence, bool(alone))
-    return [*turned_by_itself(evidence), *lost(evidence), *alone, *turned, *([last, *gone] if evidence.is_fine_beside_deleted else [*gone, last]), *sorted_by, *moved_insert(moved)]
+    first_of_all = [*turned_by_itself(evidence), *lost(evidence)]
+    if alone and evidence.kind == IDENTIFIERS:
+        return [*first_of_all, *sorted_by, *alone]
+    return [*first_of_all, *alone, *turned, *hidden_order(evidence, later, old), *([last, *gone] if evidence.is_fine_beside_deleted else [*gone, last]), *sorted_by, *moved_insert(moved)]
+
+
+def hidden_order(evidence: Evidence, later: Operation, old: Operation) -> list:
+    """Of an insert whose author had the other one, and put it beside a third on the other side, that this one and the other may stand in another order
+    where the third is deleted."""
+    if evidence.kind not in ("", *BY_ELEMENTS):
+        return []
+    told = put_beside(evidence, later, old)
+    beside = neighbours(later)[0 if told["side"] == "before" else 1]
+    unlike = unlike_author(evidence, later, old)
+    hidden = next(iter(evidence.recording.inserts.get(beside, [])), None)
+    if hidden is None or unlike.replica == later.replica or not any(map(unlike.has_seen, evidence.recording.deletes.get(beside, []))) or not are_put_at_once(hidden, old):
+        return []
+    if any(beside in one.response and old.element in one.response for one in evidence.recording.streams[unlike.replica][:unlike.n]):
+        return []
+    lines = sorted({evidence.line_at(insert, replica) for insert in (hidden, old) for replica in (later.replica, unlike.replica) if insert.replica != replica})
+    return [Cause("hidden order", HIDDEN_ORDER.format(new=later.element, side="behind" if told["side"] == "before" else "before", hidden=beside, insert=at(hidden), old=old.element,
+                                                      replica=unlike.replica, author=later.replica, place=place_of_both(hidden, old), lines=joined([f"line {line}" for line in lines])))]
+
+
+def unlike_author(evidence: Evidence, later: Operation, old: Operation) -> Operation:
+    """The response that shows two elements otherwise than the author of the later one."""
+    names = [name for name in later.response if name in (later.element, old.element)]
+    return next((operation for operation in evidence.operations if [name for name in operation.response if name in names] != names), evidence.operations[0])
 
 
 def seen(evidence: Evidence, later: Operation, old: Operation, is_numbered: bool) -> str:
     """Of an insert whose author had the other one, which response shows them otherwise, and when the insert came there."""
-    names = [name for name in later.response if name in (later.element, old.element)]
-    unlike = next((operation for operation in evidence.operations if [name for name in operation.response if name in names] != names), evidence.operations[0])
+    unlike = unlike_author(evidence, later, old)
     arrival = evidence.recording.arrival(later, unlike.replica) if unlike.replica != later.replica else None
     arrived = f" in line {arrival.line}" if arrival is not None and not evidence.recording.is_delivered(arrival.line) else ""
     look = OF_AUTHOR_OR_PLACE if unlike.replica != later.replica else BETWEEN_THE_TWO

@@ -223,6 +223,24 @@ class Evidence:
         return None
 
     @cached_property
+    def stale_place(self) -> tuple | None:
+        """Of a wrong position, the replica's last response in which it led to where the element stands now, where others' changes have come since; and
+        these."""
+        operation = self.operations[0]
+        shown = operation.response
+        if operation.element not in shown:
+            return None
+        beside = neighbours_in(shown, shown.index(operation.element))
+        for one in reversed(self.recording.streams[operation.replica][max(operation.n - 1 - MOST_LOOKED_AT, 0):operation.n - 1]):
+            if one.kind == "view" or operation.at > len(one.response):
+                continue
+            there = one.response[operation.at - 1] if operation.at else None, one.response[operation.at] if operation.at < len(one.response) else None
+            came = self.came_between(one, operation)
+            if came and any(name is not None and name == other for name, other in zip(beside, there)):
+                return one, came
+        return None
+
+    @cached_property
     def shown_up_to_last(self) -> list:
         """The operations up to the last line that the verdict is on."""
         return [entry for entry in self.recording.entries if isinstance(entry, Operation) and entry.line <= self.last_line]
@@ -562,6 +580,11 @@ class Evidence:
             is_wanted = self.report["verdict"] == "contents" or changes is inserts
             found += seen[:1] if seen else changes[:1] if is_wanted else []
         return found
+
+
+def neighbours_in(names: list, place: int) -> tuple:
+    """The names before and behind a place; none at an end."""
+    return (names[place - 1] if place else None), (names[place + 1] if place + 1 < len(names) else None)
 
 
 def turned(names: list, later: list) -> list:

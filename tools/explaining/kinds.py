@@ -9,14 +9,14 @@ from functools import partial
 VARIABLE = "DOMEPEELER_EDITOR"
 NEIGHBOURS, TREE, IDENTIFIERS, POSITIONS = "neighbours", "tree", "identifiers", "positions"
 KINDS = {  # with what is said of each
-    NEIGHBOURS: "an insert names the element beside which it belongs, as in RGA, WOOT, YATA and Yjs",
+    NEIGHBOURS: "an insert names the element beside which it belongs, as in RGA, WOOT, YATA, Yjs and event-graph walkers",
     TREE: "each element has a parent, as in Fugue and causal trees",
     IDENTIFIERS: "the list is sorted by identifiers, as in Logoot and LSEQ",
     POSITIONS: "changes carry positions, as in operational transformation",
 }
 BY_ELEMENTS = (NEIGHBOURS, TREE)
 OF_KINDS = {  # which kinds can have a cause; all can have one that does not stand here
-    "identifiers": (IDENTIFIERS,), "positions": (POSITIONS,), "weak alone": (POSITIONS,), "rebased": (POSITIONS,), "between": (NEIGHBOURS,), "inside": (TREE,), "own place": BY_ELEMENTS,
+    "identifiers": (IDENTIFIERS,), "positions": (POSITIONS,), "weak alone": (POSITIONS,), "rebased": (POSITIONS,), "own on way": (POSITIONS,), "hidden order": BY_ELEMENTS, "between": (NEIGHBOURS,), "inside": (TREE,), "own place": BY_ELEMENTS,
     "behind unknown": (NEIGHBOURS,), "numbers": BY_ELEMENTS, "seen in a cycle": BY_ELEMENTS, "lost neighbour": BY_ELEMENTS, "beside gone": BY_ELEMENTS, "beside deleted": BY_ELEMENTS,
     "several, deleted": (*BY_ELEMENTS, POSITIONS), "several, apart": (*BY_ELEMENTS, POSITIONS),
 }
