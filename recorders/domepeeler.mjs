@@ -30,8 +30,9 @@
 // `new Recording(2, null, { stop: true })` judges the session after each call that takes a list, and throws NotAccepted in the call that
 // answered wrong; with `weak: true` too, in that after which weak doesn't hold.
 //
-// Each call that a trace can't say throws Refused, or Full at a limit, and leaves the recording as it was. When the program ends it says on
-// standard error if nothing has judged a recording, saved it or taken its text since something was recorded or refused.
+// Each call that a trace can't say throws Refused, or Full at a limit, and leaves the recording as it was. When the program ends by itself it says
+// on standard error if nothing has judged a recording, saved it or taken its text since something was recorded or refused; and if one is wrong
+// that is judged after each call. A signal hides that, and so does a worker that is ended.
 
 const MOST_REPLICAS = 16, MOST_ENTRIES = 16384, MOST_INSERTS = 4096
 const MOST_NAMES = 4096, MOST_PLACES = 262144, MOST_POSITION = 4294967295
@@ -69,19 +70,28 @@ const OWN = String(import.meta.url)
 const OWN_FILES = [OWN, OWN.replace(/[^/]*$/, "javascript/node_test.mjs")].flatMap((url) => [url, decodeURI(url.replace("file://", ""))])
 
 // By number of a recording, of those that nobody has judged, saved or taken the text of since something was recorded or refused: where the last line
-// came from.
+// came from, and where it was judged after each call and a call was wrong, what is.
 const unread = new Map()
-let begun = 0, hasFailed = false
+let begun = 0
 const { process: own } = globalThis
-own?.on?.("uncaughtExceptionMonitor", () => { hasFailed = true })
 own?.on?.("exit", () => {
-  if (!unread.size || hasFailed) return
-  const last = [...unread.values()].at(-1)
-  const [which, saved, taken] = unread.size === 1 ? ["a recording", "saved it", "taken its text"]
-    : [`${unread.size} recordings`, "saved them", "taken their texts"]
-  console.error(`domepeeler: nothing has judged ${which}, ${saved} or ${taken} since something was recorded or refused` +
-    (last ? `; the last line was recorded by ${own.getBuiltinModule ? placing(modulesAtOnce())(last) : last}` : ""))
+  const left = [...unread.values()], wrong = left.filter(({ told }) => told), others = left.filter(({ told }) => !told)
+  const tell = (words, { place }) => console.error(`domepeeler: ${words}` + (place ? `; the last line was recorded by ${placedHere(place)}` : ""))
+  if (others.length) {
+    const [which, saved, taken] = others.length === 1 ? ["a recording", "saved it", "taken its text"]
+      : [`${others.length} recordings`, "saved them", "taken their texts"]
+    tell(`nothing has judged ${which}, ${saved} or ${taken} since something was recorded or refused`, others.at(-1))
+  }
+  if (wrong.length) {
+    const which = wrong.length === 1 ? "a recording that was judged after each call is wrong"
+      : `${wrong.length} recordings that were judged after each call are wrong, the last one`
+    tell(`${which}: ${wrong.at(-1).told}`, wrong.at(-1))
+  }
 })
+
+function placedHere(place) {
+  return own.getBuiltinModule ? placing(modulesAtOnce())(place) : place
+}
 
 /** No trace can say this. */
 export class Refused extends Error {}
@@ -315,7 +325,7 @@ export class Recording {
   /** The trace; of one replica's log the text that merge.py takes. */
   text() {
     unread.delete(this.#number)
-    return this.#lines.join("\n") + "\n"
+    return this.#text()
   }
 
   /** Writes the text into a file of this name; and first, into one with `.lines` behind the name, how many lines it has, so that the
@@ -326,20 +336,21 @@ export class Recording {
     const { stat, writeFile } = await import("node:fs/promises")
     const { fileURLToPath } = await import("node:url")
     const name = path.href ? fileURLToPath(path) : path
-    const text = this.text(), places = this.#places(await modules())
+    const text = this.#text(), places = this.#places(await modules())
     const notes = this.#notes.map((note) => `note ${note}`)
     const delivered = this.#delivered.map(([first, last]) => `delivered ${first} ${last}`)
     const refused = this.refusals().map((told) => `refused ${told}`)
     const beside = [this.#lines.length, "language javascript", ...notes, ...delivered, ...(this.#hasLog ? ["log"] : []), ...refused,
       ...places.map(([line, told]) => `${line} ${told}`)]
     const there = await stat(name).catch(() => null)
-    if (there !== null && !there.isFile()) return await writeFile(name, text).catch((why) => { throw telling(why, name) })
+    const lines = this.#lines.length
+    if (there !== null && !there.isFile()) return await writeFile(name, text).then(() => this.#markRead(lines), (why) => { throw telling(why, name) })
     const target = await linkedTo(name) // first of all, so that an error names the file that was asked for
     const toldBeside = beside.map((line) => `${line}\n`).join("")
     for (let tries = 0; tries < MOST_TRIES; tries++) {
       await put(`${name}.lines`, toldBeside)
       await put(name, text, target)
-      if (await mayHold(`${name}.lines`, toldBeside)) return
+      if (await mayHold(`${name}.lines`, toldBeside)) return this.#markRead(lines)
       await new Promise((goOn) => setTimeout(goOn, 10 * Math.random())) // another one has put its own there, and this trace is beside it
     }
     throw Object.assign(new Error(`another process saves there too: ${escaped(name)}`), { code: "EBUSY", path: name })
@@ -371,6 +382,7 @@ export class Recording {
     const operations = this.#replicas.reduce((sum, one) => sum + one.operations, 0)
     if (isAccepted !== (done.status === 0) || report.operations !== operations)
       throw new Error(`${escaped(name)} ended with status ${done.status} and printed a report that is not on this recording`)
+    unread.delete(this.#number)
     return report
   }
 
@@ -396,6 +408,7 @@ export class Recording {
     try {
       report = this.#report(node, null)
     } catch (why) {
+      this.#markUnread()
       return why
     }
     if (report.verdict === "accepted" || (this.#weak && report.weak === true)) return null
@@ -404,6 +417,7 @@ export class Recording {
     } catch (why) {
       this.#stopped = `The recording is not accepted: ${report.verdict}. There is no explanation: ${why.message}`
     }
+    this.#markUnread()
     return new NotAccepted(this.#stopped)
   }
 
@@ -420,6 +434,7 @@ export class Recording {
     const { name, done } = this.#ask(node, explainer, "DOMEPEELER_EXPLAIN", command, "the tool's",
       [...(weak ? ["--weak"] : []), "--language", "javascript", ...delivered, ...this.refusals().flatMap((told) => ["--refused", told]), "-"])
     if ((done.status !== 0 && done.status !== 1) || !done.stdout) throw ended(name, done, "words")
+    unread.delete(this.#number)
     const words = new Set(done.stdout.match(/[A-Za-z0-9]+/g))
     const named = [...this.ids()].filter(([short]) => words.has(short) && short.startsWith("long"))
     const told = named.map(([short, given]) => `${short}: ${escaped(given)}`)
@@ -464,7 +479,7 @@ export class Recording {
     if (this.#only !== null) throw new Refused(ONE_LOG)
     const asked = given || process.env[variable] || command
     const [name, ...words] = Array.isArray(asked) ? asked : [asked]
-    const done = node.childProcess.spawnSync(name, [...words, ...more], { input: this.text(), maxBuffer: MOST_PRINTED, encoding: "utf8" })
+    const done = node.childProcess.spawnSync(name, [...words, ...more], { input: this.#text(), maxBuffer: MOST_PRINTED, encoding: "utf8" })
     done.signalNumber = node.os.constants.signals[done.signal]
     if (done.error && done.status === null && done.signal === null) {
       throw new Error(`${escaped(name)} cannot be run (${done.error.code}): set ${variable} to ${whose} path`)
@@ -739,7 +754,16 @@ export class Recording {
   }
 
   #markUnread() {
-    unread.set(this.#number, this.#callers.at(-1)?.[0])
+    unread.set(this.#number, { place: this.#callers.at(-1)?.[0], told: this.#stopped.split("\n")[0] })
+  }
+
+  // So many lines have been saved.
+  #markRead(lines) {
+    if (lines === this.#lines.length) unread.delete(this.#number)
+  }
+
+  #text() {
+    return this.#lines.join("\n") + "\n"
   }
 
   // The nearest callers that are your code.

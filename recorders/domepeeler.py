@@ -29,8 +29,9 @@ Threads may share a recording: each call is whole before the next one begins.
 `Recording(2, stop=True)` judges the session after each call that takes a list, and raises `NotAccepted` in the call that answered wrong;
 with `weak=True` too, in that after which weak doesn't hold.
 
-Each call that a trace can't say raises `Refused`, or `Full` at a limit, and leaves the recording as it was. When the program ends it says on
-standard error if nothing has judged a recording, saved it or taken its text since something was recorded or refused."""
+Each call that a trace can't say raises `Refused`, or `Full` at a limit, and leaves the recording as it was. When the program ends by itself it says
+on standard error if nothing has judged a recording, saved it or taken its text since something was recorded or refused; and if one is wrong that is
+judged after each call. `os._exit`, a signal or a daemon's end hide that."""
 from __future__ import annotations
 
 import atexit
@@ -81,14 +82,16 @@ STATEMENT = re.compile(r"^(  stop before line (\d+) of the trace, .*?) In [A-Z][
 MOST_WARNED = 5  # deletes, or inserts, that are warned of one by one
 MOST_CHANGES = 3  # that are warned of one by one of those that a replica lacks, or has made nothing of
 
-# By process that began recordings, which alone sets bytes back: what it shares with those forked from it, a byte for some of its recordings, of
+MOST_SHARED = 1 << 20  # recordings of a process that have a byte of their own of what it shares
+# By process that began recordings, which alone sets bytes back: what it shares with those forked from it, a byte for each of its recordings, of
 # whether these recorded into a copy.
-_FORKS: Dict[int, mmap.mmap] = {os.getpid(): mmap.mmap(-1, mmap.PAGESIZE)}
+_FORKS: Dict[int, mmap.mmap] = {os.getpid(): mmap.mmap(-1, MOST_SHARED)}
 _NOT_COPIED, _FORK, _COPY = range(3)  # such a byte: nobody did, a forked process, or who holds another copy
 _begun = itertools.count()
-# By recording, of those that nobody has judged, saved or taken the text of since something was recorded or refused: the process, and where the last
-# line came from.
-_UNREAD: Dict[int, Tuple[int, Callers]] = {}
+# By recording, of those that nobody has judged, saved or taken the text of since something was recorded or refused: the process, where the last line
+# came from, and where it was judged after each call and a call was wrong, what is.
+_UNREAD: Dict[int, Tuple[int, Callers, str]] = {}
+_TELLING: Set[int] = set()  # workers of multiprocessing that tell of theirs when they end
 
 Clock = Union[Sequence[int], Mapping[int, int]]
 Words = Union[str, Sequence[str]]
@@ -189,9 +192,9 @@ class Recording:
         self._process = os.getpid()
         self._is_watched = self._is_copy = False  # whether something judges it, and will judge no copy; and whether it is such a copy
         self._number = next(_begun)
-        self._begun_by, self._slot = os.getpid(), self._number % mmap.PAGESIZE  # of _FORKS
+        self._begun_by, self._slot = os.getpid(), self._number % MOST_SHARED  # of _FORKS
         if self._begun_by not in _FORKS:
-            _FORKS.setdefault(self._begun_by, mmap.mmap(-1, mmap.PAGESIZE))
+            _FORKS.setdefault(self._begun_by, mmap.mmap(-1, MOST_SHARED))
         _FORKS[self._begun_by][self._slot] = _NOT_COPIED
         if not _whole(replicas, 1, MOST_REPLICAS):
             raise Refused(f"replicas are 1 to {MOST_REPLICAS}, not {replicas}" if _is_int(replicas) else
@@ -225,10 +228,14 @@ class Recording:
         context = sys.modules.get("multiprocessing.context")
         if self._is_watched and context is not None and context.get_spawning_popen() is not None:  # for a process that shares nothing with this one
             raise Refused(COPIED)
-        return {**{name: value for name, value in vars(self).items() if name != "_lock"}, "_is_copy": self._is_watched}  # a copy has its own lock
+        unread = _UNREAD.pop(self._number, None)  # from now on the copy's
+        return {**{name: value for name, value in vars(self).items() if name != "_lock"}, "_is_copy": self._is_watched, "_is_unread": unread is not None}
 
     def __setstate__(self, state: Dict[str, Any]) -> None:
-        vars(self).update(state, _lock=threading.RLock(), _process=os.getpid(), _number=next(_begun))
+        is_unread = state.pop("_is_unread", False)
+        vars(self).update(state, _lock=threading.RLock(), _process=os.getpid(), _number=next(_begun))  # a copy has its own lock
+        if is_unread:
+            self._mark_unread()
 
     @_alone
     def at(self, file: Union[str, "os.PathLike[str]", None] = None, line: int = 1) -> None:
@@ -364,8 +371,8 @@ class Recording:
     @_alone
     def text(self) -> str:
         """The trace; of one replica's log the text that merge.py takes."""
-        _UNREAD.pop(self._number, None)
-        return "\n".join(self._lines) + "\n"
+        self._mark_read()
+        return self._text()
 
     @_alone
     def save(self, path: Union[str, "os.PathLike[str]"]) -> None:
@@ -373,11 +380,12 @@ class Recording:
         that the tools notice where the end of the file is lost, your notes, and from where in your code or log each line was recorded.
         Each file appears whole, or not at all. A second recording that is saved under the same name takes the place of the first, without a
         word: give each that you want to keep its own. A pipe or a device has none beside it."""
-        text = self.text().encode()
+        text = self._text().encode()
         name = os.fsdecode(path)
         if os.path.exists(name) and not os.path.isfile(name):
             with open(name, "wb") as file:
                 file.write(text)
+            self._mark_read()
             return
         marks = ["language python", *(f"note {note}" for note in self._notes), *(f"delivered {first} {last}" for first, last in self._delivered),
                  *(["log"] if self._has_log else []), *(f"refused {_printable(told)}" for told in self._refusals())]
@@ -389,6 +397,7 @@ class Recording:
             _put(f"{name}.lines", told)
             _put(name, text)  # as bytes: each line ends with LF alone on every system
             if _may_hold(f"{name}.lines", told):
+                self._mark_read()
                 return
             time.sleep(random.random() / 100)  # another process has put its own there, and this trace is beside it
         raise OSError(errno.EBUSY, "another process saves there too", name)
@@ -419,6 +428,7 @@ class Recording:
         is_accepted, operations = report["verdict"] == "accepted", sum(one.operations for one in self._replicas)
         if is_accepted != (done.returncode == 0) or report.get("operations") != operations:
             raise RuntimeError(f"{_escaped(name)} ended with status {done.returncode} and printed a report that is not on this recording")
+        self._mark_read()
         return report
 
     def _wrong(self) -> Optional[Exception]:
@@ -426,6 +436,7 @@ class Recording:
         try:
             report = self._report()
         except RuntimeError as why:
+            self._mark_unread()
             return why.with_traceback(None)
         if report["verdict"] == "accepted" or (self._weak and report.get("weak") is True):
             return None
@@ -433,6 +444,7 @@ class Recording:
             self._stopped = self.explain(weak=self._weak).rstrip("\n")
         except RuntimeError as why:
             self._stopped = f"The recording is not accepted: {report['verdict']}. There is no explanation: {why}"
+        self._mark_unread()
         return NotAccepted(self._stopped)
 
     @_alone
@@ -446,6 +458,7 @@ class Recording:
                                [*(["--weak"] if weak else []), "--language", "python", *told_of, "-"])
         if done.returncode not in (0, 1) or not done.stdout:
             _ended(name, done, "words")
+        self._mark_read()
         said = done.stdout.decode(errors="replace")
         words = set(re.findall("[A-Za-z0-9]+", said))
         told = [f"{name}: {_escaped(given)}" for name, given in self.ids().items() if name in words and name.startswith("long")]
@@ -489,7 +502,7 @@ class Recording:
         asked = given or os.environ.get(variable) or command
         words = [asked] if isinstance(asked, str) else list(asked)
         try:
-            return words[0], subprocess.run([*words, *more], input=self.text().encode(), capture_output=True)
+            return words[0], subprocess.run([*words, *more], input=self._text().encode(), capture_output=True)
         except OSError as why:
             raise RuntimeError(f"{_escaped(words[0])} cannot be run ({why.strerror}): set {variable} to {whose} path") from None
 
@@ -723,7 +736,14 @@ class Recording:
 
     def _mark_unread(self) -> None:
         if not self._is_watched:
-            _UNREAD[self._number] = self._process, self._callers[-1] if self._callers else ()
+            _UNREAD[self._number] = self._process, self._callers[-1] if self._callers else (), self._stopped.partition("\n")[0]
+            _tell_at_end_of_worker()
+
+    def _mark_read(self) -> None:
+        _UNREAD.pop(self._number, None)
+
+    def _text(self) -> str:
+        return "\n".join(self._lines) + "\n"
 
     def _refusals(self) -> List[str]:
         """That calls were refused, a line each, if what they say was not recorded later."""
@@ -765,17 +785,33 @@ class Recording:
 
 @atexit.register
 def _tell_unread() -> None:
-    """Says on standard error that of recordings of this process nobody knows whether they are right, unless the program ends by an error. One that is
-    judged after each call lacks what was refused alone."""
-    left = [callers for process, callers in _UNREAD.values() if process == os.getpid()]
-    if not left or hasattr(sys, "last_type"):
-        return
-    which, saved, taken = ("a recording", "saved it", "taken its text") if len(left) == 1 else (
-        f"{len(left)} recordings", "saved them", "taken their texts")
-    file, line = next(iter(left[-1]), ("", 0))
+    """Says on standard error of which recordings of this process nobody knows whether they are right; and which ones, judged after each call, are
+    wrong, since whoever caught the error may have told nobody."""
+    left = [(callers, told) for process, callers, told in _UNREAD.copy().values() if process == os.getpid()]
+    unread, wrong = [callers for callers, told in left if not told], [(callers, told) for callers, told in left if told]
     with contextlib.suppress(Exception):  # where nobody hears it, nothing is to be done
-        place = f"; the last line was recorded by {_place(file, line, _folder_here())}" if file else ""
-        print(f"domepeeler: nothing has judged {which}, {saved} or {taken} since something was recorded or refused{place}", file=sys.stderr, flush=True)
+        if unread:
+            which, saved, taken = ("a recording", "saved it", "taken its text") if len(unread) == 1 else (
+                f"{len(unread)} recordings", "saved them", "taken their texts")
+            _tell(f"nothing has judged {which}, {saved} or {taken} since something was recorded or refused", unread[-1])
+        if wrong:
+            which = "a recording that was judged after each call is wrong" if len(wrong) == 1 else (
+                f"{len(wrong)} recordings that were judged after each call are wrong, the last one")
+            _tell(f"{which}: {wrong[-1][1]}", wrong[-1][0])
+
+
+def _tell(words: str, callers: Callers) -> None:
+    file, line = next(iter(callers), ("", 0))
+    place = f"; the last line was recorded by {_place(file, line, _folder_here())}" if file else ""
+    print(f"domepeeler: {words}{place}", file=sys.stderr, flush=True)
+
+
+def _tell_at_end_of_worker() -> None:
+    """Has a worker of multiprocessing tell it too: what is registered otherwise these don't call."""
+    util, process = sys.modules.get("multiprocessing.util"), sys.modules.get("multiprocessing.process")
+    if util and process and os.getpid() not in _TELLING and process.parent_process() is not None:
+        _TELLING.add(os.getpid())
+        util.Finalize(None, _tell_unread, exitpriority=0)
 
 
 def _callers() -> Callers:

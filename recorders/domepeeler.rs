@@ -67,7 +67,9 @@ const LAST: &str = "\nThe list specifications\n"; // that of the last section th
 const ONE_LOG: &str = "one replica's log is no recording: merge the logs first";
 const FAILED_TRACES: &str = "failed_traces"; // the folder of traces that were not accepted in tests
 const LETTERS_OF_HASH: usize = 16; // which cargo puts behind the name of a program of tests
-const RUNS: &str = ".runs"; // in it: for each run of tests a folder, with an empty file for each trace that it has saved
+const RUNS: &str = ".runs"; // in it: for each run of tests a folder, with a mark for each trace that it has saved
+const MARK: &str = "mark"; // the ending of its name; in it stands the number of the process that saved the trace
+const DAY: Duration = Duration::from_secs(24 * 60 * 60);
 const MOST_LINKS: usize = 40; // that are followed, one behind the other
 const MOST_NOTES: usize = 20;
 const MOST_LETTERS: usize = 200; // of a note
@@ -468,6 +470,7 @@ impl Recording {
         let lines = format!("trace 1\nreplicas {replicas}\n");
         let others: Arc<[u32]> = vec![0; replicas].into();
         let new = Replica { entries: 0, operations: 0, inserts: 0, places: 0, changes: vec![], others, pasts: vec![] };
+        this_run(); // whose number is known while cargo lives
         let callers = Vec::new();
         let names = Names::default();
         let replicas = vec![new; replicas];
@@ -843,8 +846,8 @@ impl Recording {
     /// of `explain`. It judges what is recorded by then: what comes later wants another call, without which the recording panics when it is
     /// dropped. It panics because `cargo test` hides what a test that passes writes to standard error. The trace is then saved below the
     /// folder `failed_traces`, by the name of the test, and where no tool explains it, the verdict stands in the place of the words. Where
-    /// another run of tests that is still at work has saved one by this name, that stays, and this one has `.run` and a number in its name. Of
-    /// a recording of nothing it panics with the warning alone, and saves no trace.
+    /// another run of tests that is still at work has saved one by this name, that stays, and this one has `.run` and numbers in its name. Of a
+    /// recording of nothing it panics with the warning alone, and saves no trace.
     #[track_caller]
     pub fn assert_accepted(&self) {
         self.assert_right(Verdict::is_accepted, &[]);
@@ -905,12 +908,14 @@ impl Recording {
         let _ = SAVED.try_with(|saved| saved.set(saved.get() + 1));
         let ignored = Path::new(FAILED_TRACES).join(".gitignore");
         let saved = fs::create_dir_all(FAILED_TRACES)
-            .and_then(|()| if ignored.exists() { Ok(()) } else { fs::write(ignored, "*\n") })
-            .and_then(|()| marked(path))
-            .and_then(|path| self.save(&path).map(|()| path));
+            .and_then(|()| if ignored.exists() { Ok(()) } else { Fresh::written(&ignored, "*\n")?.put() })
+            .and_then(|()| {
+                let path = marked(path);
+                self.save(&path).map(|()| path)
+            });
         match saved {
             Ok(path) => format!("The trace is saved: {}", path.display()),
-            Err(why) => format!("The trace can't be saved: {}: {why}", path.display()),
+            Err(why) => format!("The trace can't be saved: {}: {why}. It is:\n{}", path.display(), self.lines),
         }
     }
 
@@ -1656,7 +1661,7 @@ fn failed_trace(caller: &Location) -> PathBuf {
     path
 }
 
-/// Removes what this test has saved, unless another run saved it that is still at work.
+/// Removes what this test has saved, unless another run saved it that is still at work, or another program of this one.
 fn remove_saved(path: &Path) {
     let remove = |trace: &Path| {
         let is_removed = fs::remove_file(trace).is_ok(); // most often there is none
@@ -1674,74 +1679,153 @@ fn remove_saved(path: &Path) {
     let stem = path.file_stem().unwrap_or_default().to_string_lossy();
     for file in fs::read_dir(FAILED_TRACES).into_iter().flatten().flatten() {
         let name = file.file_name();
-        let run = name.to_str().and_then(|name| run_of(&stem, name));
-        if matches!(run, Some(run) if run == this_run() || !is_at_work(run)) {
+        if is_of_run(&stem, &name.to_string_lossy()) && !is_of_another(&file.path()) {
             remove(&file.path());
         }
     }
 }
 
-/// The run of tests that saved a trace beside another run's, if the file of this name is such a trace of the test with this stem.
-fn run_of<'a>(stem: &str, name: &'a str) -> Option<&'a str> {
-    let (before, run) = name.strip_suffix(".trace")?.rsplit_once(".run")?;
-    let number = before.strip_prefix(stem)?;
-    let is_of_test = number.is_empty() || matches!(number.strip_prefix('-'), Some(number) if is_number(number));
-    (is_of_test && is_number(run)).then_some(run)
+/// Whether the file of this name is a trace that a run of tests saved beside another's, of the test with this stem.
+fn is_of_run(stem: &str, name: &str) -> bool {
+    let parts = name.strip_suffix(".trace").and_then(|name| name.rsplit_once(".run"));
+    let number = parts.and_then(|(before, _)| before.strip_prefix(stem));
+    matches!(parts, Some((_, run)) if is_run(run))
+        && matches!(number, Some(number) if number.is_empty() || matches!(number.strip_prefix('-'), Some(number) if is_number(number)))
+}
+
+/// Whether it is the name of a run: three numbers.
+fn is_run(name: &str) -> bool {
+    name.split('-').count() == 3 && name.split('-').all(is_number)
 }
 
 fn is_number(text: &str) -> bool {
     !text.is_empty() && text.bytes().all(|byte| byte.is_ascii_digit())
 }
 
-/// Where this run saves a trace, which it marks as its own: by another name where a run that is still at work has marked it. Each marks it
-/// before it looks, so that of two at the same time none takes what the other saves.
-fn marked(path: &Path) -> io::Result<PathBuf> {
-    let mark = mark_of(path, &this_run());
-    fs::create_dir_all(mark.parent().unwrap_or_else(|| Path::new("")))?;
-    fs::write(&mark, "")?;
-    if !is_of_another(path) {
-        return Ok(path.to_path_buf());
+/// Where this process saves a trace, which it marks as its own: by another name where a run that is still at work has marked it, or another
+/// program of this one, or another thread of this process has saved it. Each marks it before it looks, so that of two at the same time none takes
+/// what the other saves. Where it can't be marked, the trace is saved all the same.
+fn marked(path: &Path) -> PathBuf {
+    static SAVED_BY: Mutex<Vec<(PathBuf, std::thread::ThreadId)>> = Mutex::new(Vec::new());
+    let mut saved_by = SAVED_BY.lock().unwrap_or_else(|poisoned| poisoned.into_inner());
+    let this = std::thread::current().id();
+    let is_of_others = |path: &Path| saved_by.iter().any(|(saved, thread)| saved == path && *thread != this);
+    let mut own = path.to_path_buf();
+    let mut number = 1;
+    while is_of_others(&own) {
+        number += 1;
+        own = numbered(path, number);
     }
-    fs::remove_file(mark)?;
-    Ok(path.with_extension(format!("run{}.trace", this_run())))
+    if !saved_by.iter().any(|(saved, _)| *saved == own) {
+        saved_by.push((own.clone(), this));
+    }
+    if is_marked(&own) {
+        if !is_of_another(&own) {
+            return own;
+        }
+        let _ = fs::remove_file(mark_of(&own, &this_run())); // it is the other's
+    }
+    let other = own.with_extension(format!("run{}.trace", name_of_run(std::process::id())));
+    is_marked(&other);
+    other
+}
+
+/// Marks a trace as saved by this process, unless another has marked it; whether it is this one's, as far as can be known.
+fn is_marked(path: &Path) -> bool {
+    let mark = mark_of(path, &this_run());
+    let number = std::process::id().to_string();
+    let made = fs::create_dir_all(mark.parent().unwrap_or_else(|| Path::new("")))
+        .and_then(|()| File::options().write(true).create_new(true).open(&mark))
+        .and_then(|mut file| file.write_all(number.as_bytes()));
+    match made {
+        Err(why) if why.kind() == io::ErrorKind::AlreadyExists => matches!(fs::read_to_string(&mark), Ok(there) if there == number),
+        _ => true,
+    }
 }
 
 fn mark_of(path: &Path, run: &str) -> PathBuf {
-    Path::new(FAILED_TRACES).join(RUNS).join(run).join(path.file_stem().unwrap_or_default())
+    let name = format!("{}.{MARK}", path.file_stem().unwrap_or_default().to_string_lossy());
+    Path::new(FAILED_TRACES).join(RUNS).join(run).join(name)
 }
 
-/// Whether another run of tests that is still at work has marked this trace. What ended ones have marked is theirs no longer.
+/// Whether another run of tests that is still at work has marked this trace, or another process of this run. What ended ones have marked is theirs
+/// no longer.
 fn is_of_another(path: &Path) -> bool {
     let mut is_another = false;
     for folder in fs::read_dir(Path::new(FAILED_TRACES).join(RUNS)).into_iter().flatten().flatten() {
         let run = folder.file_name().to_string_lossy().into_owned();
-        if !is_at_work(&run) {
-            let _ = fs::remove_dir_all(folder.path()); // another may have done so
-        } else if run != this_run() && mark_of(path, &run).exists() {
-            is_another = true;
+        let own = std::process::id().to_string();
+        if run == this_run() {
+            is_another |= matches!(fs::read_to_string(mark_of(path, &run)), Ok(number) if number != own);
+        } else if is_run(&run) && !is_at_work(&run, &folder.path()) {
+            forget(&folder.path());
+        } else if is_run(&run) {
+            is_another |= mark_of(path, &run).exists();
         }
     }
     is_another
 }
 
-/// Which run of tests this process is of, by the number of a process: that of cargo, which begins one for each file of tests, or its own.
-fn this_run() -> String {
-    #[cfg(unix)]
-    if std::env::var_os("CARGO").is_some() && has_hash(&program()) {
-        return std::os::unix::process::parent_id().to_string();
+/// Removes the marks of a run that has ended.
+fn forget(folder: &Path) {
+    for mark in fs::read_dir(folder).into_iter().flatten().flatten() {
+        if matches!(mark.path().extension(), Some(ending) if ending == MARK) {
+            let _ = fs::remove_file(mark.path()); // another may have done so
+        }
     }
-    std::process::id().to_string()
+    let _ = fs::remove_dir(folder);
 }
 
-/// Whether the process of a run has not ended. Where neither a folder of processes nor `kill` says so, it has.
-fn is_at_work(run: &str) -> bool {
-    if Path::new("/proc/self/stat").exists() {
-        let state = fs::read_to_string(Path::new("/proc").join(run).join("stat")).unwrap_or_default();
-        return matches!(state.rsplit_once(") "), Some((_, state)) if !state.starts_with(['Z', 'X'])); // Z: nobody has taken notice
+/// Which run of tests this process is of, by the process that began it: cargo, which begins one for each file of tests, or itself.
+fn this_run() -> String {
+    static RUN: Mutex<Option<String>> = Mutex::new(None);
+    let mut run = RUN.lock().unwrap_or_else(|poisoned| poisoned.into_inner());
+    run.get_or_insert_with(|| {
+        #[cfg(unix)]
+        if std::env::var_os("CARGO").is_some() && has_hash(&program()) {
+            return name_of_run(std::os::unix::process::parent_id());
+        }
+        name_of_run(std::process::id())
+    })
+    .clone()
+}
+
+/// The name of a run, by the process that began it: its number, when it was begun, and in which space of such numbers, as a container has its own.
+fn name_of_run(process: u32) -> String {
+    format!("{process}-{}-{}", state_of_process(process).1, space_of_processes())
+}
+
+/// The state of a process, as a letter, and when it was begun, in ticks of the system; of one that there is not, or of a system that does not say,
+/// nothing and 0.
+fn state_of_process(process: u32) -> (String, String) {
+    let told = fs::read_to_string(format!("/proc/{process}/stat")).unwrap_or_default();
+    let mut words = told.rsplit_once(") ").map_or("", |(_, words)| words).split(' ');
+    let letter = words.next().unwrap_or_default().to_string();
+    (letter, words.nth(18).unwrap_or("0").to_string())
+}
+
+fn space_of_processes() -> String {
+    let link = fs::read_link("/proc/self/ns/pid").unwrap_or_default();
+    let number: String = link.to_string_lossy().chars().filter(char::is_ascii_digit).collect();
+    if number.is_empty() { "0".to_string() } else { number }
+}
+
+/// Whether a run of this name has not ended. Of one in another space nobody here knows that: it counts as at work for a day. A process that has
+/// ended may be left of which nobody has taken notice.
+fn is_at_work(run: &str, folder: &Path) -> bool {
+    let mut parts = run.split('-');
+    let (process, begun, space) = (parts.next().unwrap_or_default(), parts.next().unwrap_or_default(), parts.next().unwrap_or_default());
+    if space != space_of_processes() {
+        let since = fs::metadata(folder).and_then(|about| about.modified()).ok().and_then(|changed| changed.elapsed().ok());
+        return matches!(since, Some(since) if since < DAY);
     }
-    let mut asking = Command::new("kill");
-    let asked = asking.args(["-0", run]).stdin(Stdio::null()).stdout(Stdio::null()).stderr(Stdio::null()).status();
-    matches!(asked, Ok(ended) if ended.success())
+    if begun == "0" {
+        let mut asking = Command::new("kill");
+        let asked = asking.args(["-0", process]).stdin(Stdio::null()).stdout(Stdio::null()).stderr(Stdio::null()).status();
+        return matches!(asked, Ok(ended) if ended.success());
+    }
+    let (letter, since) = state_of_process(process.parse().unwrap_or_default());
+    since == begun && letter != "Z" && letter != "X"
 }
 
 /// A name or an id for an error: a byte that is no printable ASCII stands as `\x1b`, and so does the first of `::` or `##` that begins it,

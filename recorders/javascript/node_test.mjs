@@ -25,26 +25,33 @@
 // both, a recording is taken for accepted where weak holds; `contents`, `position`, `doubled` and `refused 2` still fail.
 import { executionAsyncResource } from "node:async_hooks"
 import { createHash } from "node:crypto"
-import { mkdir, readFile, readdir, rm, rmdir, stat, writeFile } from "node:fs/promises"
+import { readFileSync, readlinkSync } from "node:fs"
+import { mkdir, readdir, rm, rmdir, stat, writeFile } from "node:fs/promises"
 import { basename, dirname, join, relative, resolve } from "node:path"
 import { NotAccepted as Stopped, Recording } from "./domepeeler.mjs"
 
 const FOLDER = "failed_traces", MOST_LETTERS = 150
-const RUNS = ".runs" // beside traces: for each run a folder, with an empty file for each trace that it has saved
-const RUN = process.env.NODE_TEST_CONTEXT?.startsWith("child") ? process.ppid : process.pid // Node's runner begins a process for each file
+const RUNS = ".runs" // beside traces: for each run a folder, with a mark for each trace that it has saved
+const MARK = ".mark", DAY = 24 * 60 * 60 * 1000 // in milliseconds
+const SPACE = spaceOfProcesses()
+const RUN = nameOf(process.env.NODE_TEST_CONTEXT?.startsWith("child") ? process.ppid : process.pid) // Node's runner begins a process for each file
 const WEAK_ALONE = "weak holds, strong doesn't"
 const NEVER_CAME = "a call was refused, and what it says never came: " // so the recorder says of what may come still
 const FIRST_LINES = 2 // of each trace: its version, and how many replicas there are
 const NEVER_CALLED = "recorded() makes a function for test(), and this one was never called, so nothing was recorded: write " +
   "test(name, recorded(2, (recording) => ...)), without `() =>` before it"
 const UNCALLED = "what recorded() made here was never called, so it recorded nothing: was its test skipped, or is it not handed to test()?"
-const uncalled = new Map() // by function that recorded() made within a test, and that was never called: the test, and an error with the line
+const CHOOSES = process.execArgv.some((word) => /^--test-(name-pattern|skip-pattern|only)/.test(word)) // whether some tests alone are to run
+const uncalled = new Map() // by function that recorded() made, and that was never called: the test within which it did, and an error with the line
 const named = new Map() // by name of a file: how many tests of this process have had it
 const warned = new Set() // paths of properties of which a recording has hidden something
 const watched = new Map() // by recording: its test, and its state when it was judged, if it was
 
 process.on("exit", () => {
-  for (const { test, neverCalled } of uncalled.values()) console.error(`${test}: ${UNCALLED}\n${neverCalled.stack.replace(/^.*\n/, "")}`)
+  for (const { test, neverCalled } of uncalled.values()) {
+    console.error(`${test ?? "domepeeler"}: ${UNCALLED}\n${neverCalled.stack.replace(/^.*\n/, "")}`)
+    if (test) process.exitCode ||= 1 // nothing can call it any more, and a reporter may hush what is told
+  }
   for (const [recording, { test, state }] of watched) {
     if (isSame(stateOf(recording), state)) continue
     const why = !state ? "the process ended within the test, so what it recorded was not judged" : recording.lines() === state.lines ?
@@ -99,7 +106,8 @@ export function recorded(replicas, body, { folder = FOLDER, weak = false, stop =
   }
   const neverCalled = new Error(NEVER_CALLED) // its stack has the line that made it
   const within = executionAsyncResource() // of Node's own, while the body of a test runs up to where it first waits
-  if (within?.constructor?.name === "Test") uncalled.set(run, { test: within.name, neverCalled })
+  const isWithin = within?.constructor?.name === "Test"
+  if (isWithin || !CHOOSES) uncalled.set(run, { test: isWithin ? within.name : null, neverCalled })
   return Object.assign(run, {
     then(kept, broken) {
       uncalled.delete(run) // the test fails by this
@@ -160,62 +168,101 @@ async function saved(recording, asked, isOfRun) {
   return `The trace is saved: ${path}`
 }
 
-// Where this run saves a trace, which it marks as its own: by another name where a run that is still at work has marked it. Each marks it before
-// it looks, so that of two at the same time none takes what the other saves.
-async function marked(path) {
-  const mark = markOf(path, RUN)
-  const make = () => mkdir(dirname(mark), { recursive: true }).then(() => writeFile(mark, ""))
-  await make().catch(make) // another process of this run may just have removed the empty folder
-  if (!await isOfAnother(path)) return path
-  await unmark(path)
-  return path.replace(/\.trace$/, `-run${RUN}.trace`)
+// The name of a run, by the process that began it: its number, when it was begun, and in which space of such numbers, as a container has its own.
+function nameOf(process) {
+  return [process, stateOfProcess(process).begun, SPACE].join("-")
 }
 
-function markOf(path, run) {
-  return join(dirname(path), RUNS, String(run), basename(path, ".trace"))
-}
-
-// Removes this run's mark, and the folders of marks where they are empty now.
-async function unmark(path) {
-  const mark = markOf(path, RUN), folder = dirname(mark)
-  await rm(mark, { force: true }).catch(() => {})
-  for (const empty of [folder, dirname(folder)]) await rmdir(empty).catch(() => {})
-}
-
-// Whether another run that is still at work has marked this trace. What ended ones have marked is theirs no longer.
-async function isOfAnother(path) {
-  const folder = join(dirname(path), RUNS)
-  for (const run of await readdir(folder).catch(() => [])) {
-    if (!await isAtWork(run)) await rm(join(folder, run), { recursive: true, force: true }).catch(() => {})
-    else if (Number(run) !== RUN && await stat(markOf(path, run)).then(() => true, () => false)) return true
-  }
-  return false
-}
-
-// Whether the process of a run has not ended; nor is one left of which nobody has taken notice, where a folder of processes says so.
-async function isAtWork(run) {
-  const state = await readFile(`/proc/${run}/stat`, "latin1").catch(() => "")
-  if (state) return !/\) [XZ] [^)]*$/.test(state)
+// The state of a process, as a letter, and when it was begun, in ticks of the system; of one that there is not, or of a system that does not say,
+// no letter and 0.
+function stateOfProcess(process) {
   try {
-    return process.kill(Number(run), 0)
+    const told = readFileSync(`/proc/${process}/stat`, "latin1").replace(/^.*\) /s, "").split(" ")
+    return { letter: told[0], begun: told[19] }
+  } catch {
+    return { letter: "", begun: "0" }
+  }
+}
+
+function spaceOfProcesses() {
+  try {
+    return readlinkSync("/proc/self/ns/pid").match(/[0-9]+/)[0]
+  } catch {
+    return "0"
+  }
+}
+
+// Whether a run of this name has not ended. Of one in another space nobody here knows that: it counts as at work for a day. A process that has ended
+// may be left of which nobody has taken notice.
+async function isAtWork(run, folder) {
+  const [process, begun, space] = run.split("-")
+  if (space !== SPACE) return Date.now() - (await stat(folder)).mtimeMs < DAY
+  const { letter, begun: since } = stateOfProcess(process)
+  return begun === "0" ? isThere(Number(process)) : since === begun && !"XZ".includes(letter)
+}
+
+function isThere(number) {
+  try {
+    return process.kill(number, 0)
   } catch (why) {
     return why.code === "EPERM"
   }
 }
 
+// Where this run saves a trace, which it marks as its own: by another name where a run that is still at work has marked it. Each marks it before
+// it looks, so that of two at the same time none takes what the other saves. Where it can't be marked, the trace is saved all the same.
+async function marked(path) {
+  const other = path.replace(/\.trace$/, `-run${RUN}.trace`)
+  await mark(path)
+  if (!await isOfAnother(path)) return path
+  await unmark(path)
+  await mark(other)
+  return other
+}
+
+async function mark(path) {
+  const file = markOf(path, RUN)
+  const make = () => mkdir(dirname(file), { recursive: true }).then(() => writeFile(file, ""))
+  await make().catch(make).catch(() => {}) // another process of this run may just have removed the empty folder
+}
+
+function markOf(path, run) {
+  return join(dirname(path), RUNS, run, `${basename(path, ".trace")}${MARK}`)
+}
+
+// Removes this run's mark, and the folders of marks where they are empty now.
+async function unmark(path) {
+  const file = markOf(path, RUN)
+  await rm(file, { force: true }).catch(() => {})
+  for (const empty of [dirname(file), dirname(dirname(file))]) await rmdir(empty).catch(() => {})
+}
+
+// Whether another run that is still at work has marked this trace. What ended ones have marked is theirs no longer.
+async function isOfAnother(path) {
+  const folder = join(dirname(path), RUNS)
+  for (const run of (await readdir(folder).catch(() => [])).filter((name) => /^[0-9]+-[0-9]+-[0-9]+$/.test(name) && name !== RUN)) {
+    if (!await isAtWork(run, join(folder, run)).catch(() => false)) await forget(join(folder, run))
+    else if (await stat(markOf(path, run)).then(() => true, () => false)) return true
+  }
+  return false
+}
+
+// Removes the marks of a run that has ended.
+async function forget(folder) {
+  for (const name of (await readdir(folder).catch(() => [])).filter((name) => name.endsWith(MARK))) await rm(join(folder, name)).catch(() => {})
+  await rmdir(folder).catch(() => {})
+}
+
 // Removes what this run, or one that has ended, saved of a test that passes now.
 async function removeSaved(path) {
   const stem = `${basename(path, ".trace")}-run`
-  const isOfRun = (name) => name.startsWith(stem) && /^[0-9]+\.trace$/.test(name.slice(stem.length))
-  const isLeft = async (name) => name === `${stem}${RUN}.trace` || !await isAtWork(name.slice(stem.length, -".trace".length))
-  const remove = async (trace) => {
+  const isOfRun = (name) => name.startsWith(stem) && /^[0-9]+-[0-9]+-[0-9]+\.trace$/.test(name.slice(stem.length))
+  const others = (await readdir(dirname(path)).catch(() => [])).filter(isOfRun).map((name) => join(dirname(path), name))
+  for (const trace of [path, ...others]) {
+    if (await isOfAnother(trace)) continue
     for (const left of [trace, `${trace}.lines`]) await rm(left, { force: true }).catch(() => {}) // most often there is none
+    await unmark(trace)
   }
-  if (!await isOfAnother(path)) await remove(path)
-  for (const name of (await readdir(dirname(path)).catch(() => [])).filter(isOfRun)) {
-    if (await isLeft(name)) await remove(join(dirname(path), name))
-  }
-  await unmark(path)
 }
 
 // Makes the folder, which Git then passes over. Another folder that is there already may hold what Git is to see.
@@ -223,7 +270,12 @@ async function makeFolder(folder) {
   const isOurs = basename(folder) === FOLDER || await stat(folder).then(() => false, () => true)
   await mkdir(folder, { recursive: true })
   if (!isOurs) return
-  await writeFile(join(folder, ".gitignore"), "*\n", { flag: "wx" }).catch((why) => { if (why.code !== "EEXIST") throw why })
+  const ignored = join(folder, ".gitignore")
+  await writeFile(ignored, "*\n", { flag: "wx" }).catch(async (why) => {
+    if (why.code === "EEXIST") return
+    await rm(ignored, { force: true }).catch(() => {}) // half of it would be taken for a file of yours
+    throw why
+  })
 }
 
 // The name of a file that no other test has which is run in this folder.

@@ -1622,7 +1622,7 @@ def check_two_runs(tally: Tally, place: Place, runs: TwoRuns, more: list | None 
         tally.check(f"{name}: each is told of, and kept", set(saved) == {"first", *(["second"] if ways else [])} and
                     all([Path(path).name for path in told[one]] == ([saved[one].name] if one in saved else []) for one in told), (saved, second.stdout))
         tally.check(f"{name}: the names", saved.get("first", Path()).name == f"{runs.trace}.trace" and (not ways or re.fullmatch(
-            rf"{re.escape(runs.trace + runs.run)}[0-9]+\.trace", saved.get("second", Path()).name) is not None), saved)
+            rf"{re.escape(runs.trace + runs.run)}[0-9-]+\.trace", saved.get("second", Path()).name) is not None), saved)
         done = place.run(runs.words, runs.folder, NAME="third")
         left = [path.name for path in folder.iterdir() if path.name not in (".gitignore", ".runs")]
         tally.check(f"{name}: a run alone that passes removes all", done.returncode == 0 and left == [], (left, done.stdout))

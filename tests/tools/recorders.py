@@ -1305,6 +1305,28 @@ if way == "refused":
 if way == "error": raise ValueError
 if way == "nothing recorded": Recording(1)
 if way == "stop": Recording(1, stop=True).read(0, [])
+if way in ("wrong", "wrong and explained"):
+    recording.text()
+    try: (recording := Recording(1, stop=True)).read(0, ["b"])  # answers wrong
+    except AssertionError: pass
+    if way == "wrong and explained": recording.explain()
+if way in ("not judged", "not stopped"):
+    os.environ["DOMEPEELER"] = "/nowhere"
+    if way == "not stopped": recording.text(); recording = Recording(1, stop=True)
+    try: recording.judge() if way == "not judged" else recording.read(0, [])  # is not judged
+    except RuntimeError: pass
+if way == "not saved":
+    try: recording.save("nowhere/unread.trace")
+    except OSError: pass
+if way == "copy":
+    import copy
+    copy.deepcopy(recording).judge()
+if way == "worker":
+    import multiprocessing
+    recording.text()
+    worker = multiprocessing.get_context("fork").Process(target=begin)
+    worker.start()
+    worker.join()
 if way == "fork":
     if os.fork() == 0: sys.exit(0)
     os.wait()
@@ -1326,6 +1348,27 @@ if (way === "refused") try {{ recording.read(7, []) }} catch {{}}
 if (way === "error") throw new Error("its own")
 if (way === "nothing recorded") new Recording(1)
 if (way === "stop") new Recording(1, null, {{ stop: true }}).read(0, [])
+if (way === "wrong" || way === "wrong and explained") {{
+  recording.text()
+  const stopping = new Recording(1, null, {{ stop: true }})
+  try {{
+    stopping.read(0, ["b"]) // answers wrong
+  }} catch {{}}
+  if (way === "wrong and explained") await stopping.explain()
+}}
+if (way === "not judged" || way === "not stopped") {{
+  process.env.DOMEPEELER = "/nowhere"
+  if (way === "not judged") await recording.judge().catch(() => {{}})
+  else try {{
+    recording.text()
+    new Recording(1, null, {{ stop: true }}).read(0, []) // is not judged
+  }} catch {{}}
+}}
+if (way === "not saved") await recording.save("nowhere/unread.trace").catch(() => {{}})
+if (way === "not awaited") {{
+  recording.save("late.trace")
+  process.exit()
+}}
 ''', ["node", "unread.mjs"]),
     "unread.el": (f'''(load "{ROOT / 'recorders'}/domepeeler.el" nil t)
 (defun begin () (let ((recording (domepeeler-new 1))) (domepeeler-insert recording 0 "a" 0 \'("a")) recording))
@@ -1343,28 +1386,30 @@ if (way === "stop") new Recording(1, null, {{ stop: true }}).read(0, [])
 }
 UNREAD_WAYS = {  # with how many recordings nobody has read then, and which line recorded last
     "nothing": (1, "inserts"), "two": (2, "inserts"), "text": (0, ""), "save": (0, ""), "judge": (0, ""), "explain": (0, ""), "more": (1, "reads"), "refused": (1, "inserts"),
-    "nothing recorded": (0, ""), "stop": (0, ""), "error": (0, ""), "fork": (1, "inserts")}
+    "nothing recorded": (0, ""), "stop": (0, ""), "error": (1, "inserts"), "fork": (1, "inserts"), "wrong": (-1, "answers wrong"), "wrong and explained": (0, ""),
+    "not judged": (1, "inserts"), "not stopped": (1, "is not judged"), "not saved": (1, "inserts"), "not awaited": (1, "inserts"), "copy": (0, ""), "worker": (1, "inserts")}
 UNREAD_TOLD = {0: "", 1: "domepeeler: nothing has judged a recording, saved it or taken its text since something was recorded or refused",
-               2: "domepeeler: nothing has judged 2 recordings, saved them or taken their texts since something was recorded or refused"}
+               2: "domepeeler: nothing has judged 2 recordings, saved them or taken their texts since something was recorded or refused",
+               -1: "domepeeler: a recording that was judged after each call is wrong: contents 0.1: this response has one element that should not be there."}
 
 
 def check_unread(tally: Tally, program: str, folder: Path) -> None:
-    """A program that ends says of which recordings nobody knows whether they are right; but where it ends by an error, which is told alone. Each
-    process tells of its own. An Emacs Lisp program has no lines, and can't tell by which error it ends."""
+    """A program that ends, by an error too, says of which recordings nobody knows whether they are right, and which it knows to be wrong. Each process
+    tells of its own. An Emacs Lisp program has no lines."""
     place = folder / "unread"
     place.mkdir()
     surroundings = {**os.environ, "DOMEPEELER": program, "DOMEPEELER_EXPLAIN": EXPLAIN}
     for name, (text, words) in UNREAD.items():
         Path(place, name).write_text(text)
         for way, (many, last) in UNREAD_WAYS.items():
-            if way not in text and way != "nothing":
+            if f'"{way}"' not in text and way != "nothing":
                 continue
             line = next((number for number, line in enumerate(text.splitlines(), 1) if re.search(f"(#|//) {last}$", line)), None) if last else None
             wanted = UNREAD_TOLD[many] + (f"; the last line was recorded by {name}:{line}" if line else "") + ("\n" if many else "")
             done = subprocess.run(words, cwd=place, capture_output=True, text=True, env={**surroundings, "WAY": way})
             told = "".join(line for line in done.stderr.splitlines(True) if line.startswith("domepeeler: "))
             tally.check(f"{name}: {way}: what nobody has read is told", told == wanted and (done.returncode == 0) == (way != "error") and
-                        (way == "error") == (done.stderr != told), done)
+                        (way == "error") == (done.stderr != told), (wanted, done))
 
 
 def check_log_readers(tally: Tally, program: str, folder: Path) -> None:
