@@ -138,7 +138,7 @@ KEPT_PLACE = ("{came} came to replica {replica} in line {line}, beside {own}, wh
               "insert? Then what arrives there must change these.")
 STALE = ("[{element}] stands where position {at} was in {before}: since then replica {replica} received {came}. Does the editor keep something from before that, such as a place, an offset, an index "
          "or a copy of the list? Then what arrives must change it, each kind of change.")
-CLOCK = {True: "the clock does not advance with each insert; ", False: "the clock does not advance when changes arrive; the replica's number is compared before the clock; "}
+CLOCK = {True: "the clock does not advance with each insert; ", False: "the clock does not advance when changes arrive, or when one that was held back is applied; the replica's number is compared before the clock; "}
 BESIDE_DELETED = ("If inserts find their place by a neighbour, look at inserts beside deleted elements: {which}. If replicas throw "
                   "deleted elements away, nothing says then where the insert belongs; if they keep them, the search for its place must treat them like "
                   "elements that are shown.")
@@ -193,6 +193,11 @@ PRINT = {  # what tells a fault of what is sent from one of how it is applied
     IDENTIFIERS: " Print both identifiers at replicas {one} and {other}: if one differs between these, look at what is sent; if the two are equal, at how they are made; else at how they are "
                  "compared, and at the search for a place.",
 }
+ODD_ONE = ("Replicas {others} show {one} before {two}. Replica {odd} alone shows them the other way round, first in {operation}: so look first at what it did in line {line}, when {came} came. {own}")
+NONE_ON_WAY = "No change of its own was on its way then: so look at what the server made of {came}, if it adjusts positions, and at what was sent before it."
+ONE_ON_WAY = "It had one change of its own on its way then, {own}. What comes must be adjusted for that, and that for what comes."
+SEVERAL_ON_WAY = ("It had {count} changes of its own on their way then: {own}. What comes must be adjusted for each of these, one after the other (each in turn as what comes became by the one before), and "
+                  "each of these for what comes; also where some wait in a buffer behind one that is sent.")
 MOVED_OR_TIED = ("Look at how a position is adjusted where a change arrives: the position of {element} was perhaps not adjusted for {changes}, which "
              "replica {replica} knew and the author of {element} did not{back}. Or look at the order of concurrent inserts: {first} and {then} were inserted without knowing of each "
              "other, and were shown in two different orders. Use a rule that gives the same order everywhere (such as the replicas' numbers). Client and server must adjust alike, and each change once.")
@@ -527,7 +532,8 @@ def own_on_way(evidence: Evidence) -> list:
     came = evidence.came_between(before, operation) if before is not None else []
     if evidence.kind != POSITIONS or not came or not evidence.missing or evidence.surplus or evidence.repeated:
         return []
-    own = [change for change in evidence.recording.changes() if change.replica == operation.replica and change.line < operation.line and not came[-1].has_seen(change)]
+    arrival = evidence.recording.arrival(came[-1], operation.replica)
+    own = evidence.on_their_way(arrival)
     deletes = [change for change in own if change.kind == "del"]
     inserts = [evidence.recording.inserts[name][0] for name in evidence.missing]
     if not deletes or any(insert.replica == operation.replica for insert in inserts):
@@ -536,7 +542,6 @@ def own_on_way(evidence: Evidence) -> list:
                   and set(evidence.missing) <= set(one.response)), None)
     elsewhere = SHOWN_ELSEWHERE.format(other=shown.replica, same=came[-1].name, missing=listed(evidence.missing, MOST_TOLD), operation=at(shown)) if shown else ""
     both = next(((delete, other) for delete in deletes for other in came if other.kind == "del" and other.element == delete.element), None)
-    arrival = evidence.recording.arrival(came[-1], operation.replica)
     is_one = not evidence.missing[1:]
     return [Cause("own on way", OWN_ON_WAY.format(
         came=came[-1].name, line=f" in line {arrival.line}", replica=operation.replica, own=named(own), elsewhere=elsewhere, missing=listed(evidence.missing, MOST_TOLD),
@@ -773,6 +778,18 @@ def is_deleted(evidence: Evidence, name: str) -> bool:
     return any(operation.has_seen(delete) for operation in evidence.operations for delete in evidence.recording.deletes.get(name, []))
 
 
+def odd_one(evidence: Evidence) -> list:
+    """Where changes carry positions, of two concurrent inserts that one replica alone shows in its order: at what it received, and what it had on its way then."""
+    if evidence.kind != POSITIONS or evidence.odd_one is None:
+        return []
+    others, operation, receipt = evidence.odd_one
+    two, one = [name for name in operation.response if name in evidence.elements]
+    own, came = evidence.on_their_way(receipt), receipt.seen.name
+    told = SEVERAL_ON_WAY if own[1:] else ONE_ON_WAY if own else NONE_ON_WAY
+    return [Cause("odd one", ODD_ONE.format(others=joined(list(map(str, others))), one=one, two=two, odd=operation.replica, operation=at(operation), line=receipt.line, came=came,
+                                            own=told.format(count=counted(len(own)), own=named(own), came=came)))]
+
+
 def sorted_alike(evidence: Evidence) -> Cause:
     """Where an editor that sorts by position identifiers may order the elements of a refusal otherwise at another replica."""
     names = evidence.elements[:MOST_MET]
@@ -795,7 +812,7 @@ def of_refusal(evidence: Evidence, weak: bool) -> list:
         if weak and moved:
             told = (EITHER if are_put_at_once(first, then) else MOVED_OR_TIED).format(first=first.element, then=then.element, **moved)
             settled = settled_by_another(evidence, first, then) if evidence.kind else []
-            return [*turned_by_itself(evidence), *lost(evidence), *reordered(evidence), *came_between(evidence), *settled, Cause("concurrent", told), *beside_deleted(evidence)]
+            return [*turned_by_itself(evidence), *lost(evidence), *reordered(evidence), *odd_one(evidence), *came_between(evidence), *settled, Cause("concurrent", told), *beside_deleted(evidence)]
         settled = settled_by_another(evidence, first, then)
         behind, is_gone = behind_unknown(evidence, first, then)
         concurrent = settled or [*behind, Cause("concurrent", CONCURRENT.format(first=first.element, then=then.element, place=place_of_both(first, then), rule=RULES[evidence.kind],
@@ -803,7 +820,7 @@ def of_refusal(evidence: Evidence, weak: bool) -> list:
         is_told = evidence.between is not None or bool(concurrent[1:]) and not is_gone
         causes = [concurrent, beside_deleted(evidence, is_told)]
         is_deleted_first = evidence.lost_neighbours and not are_put_at_once(first, then) and not is_told and not evidence.is_fine_beside_deleted
-        return [*turned_by_itself(evidence), *lost(evidence), *reordered(evidence), *came_between(evidence), *put_inside(evidence), *own_place(evidence), *sum(causes[::-1] if is_deleted_first else causes, []), sorted_alike(evidence), *moved_insert(moved)]
+        return [*turned_by_itself(evidence), *lost(evidence), *reordered(evidence), *odd_one(evidence), *came_between(evidence), *put_inside(evidence), *own_place(evidence), *sum(causes[::-1] if is_deleted_first else causes, []), sorted_alike(evidence), *moved_insert(moved)]
     later, old = (first, then) if first.has_seen(then) else (then, first)
     moved = moved_over(evidence)
     told = seen(evidence, later, old, not (weak and moved))

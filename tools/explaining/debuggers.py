@@ -38,7 +38,8 @@ def stop_of(evidence: Evidence) -> tuple:
         arrived = {arrival.receipt.line: arrival.receipt for arrival in evidence.arrivals
                    if not evidence.recording.is_delivered(arrival.receipt.line)}
         *others, entry = list(arrived.values()) or [max(evidence.operations, key=lambda operation: operation.line)]
-        first = shown_alone(evidence) or reordering(evidence) or came_between(evidence)
+        odd = evidence.odd_one[-1] if evidence.kind == POSITIONS and evidence.odd_one else None
+        first = shown_alone(evidence) or reordering(evidence) or odd or came_between(evidence)
         arrivals = [entry, *others[::-1]] if arrived else []
         if evidence.shown_alone and evidence.shown_alone[2].line not in arrived:
             arrivals.insert(0, evidence.shown_alone[2])

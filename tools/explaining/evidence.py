@@ -11,6 +11,7 @@ from typing import NamedTuple
 from .recordings import FIRST_ENTRY, Operation, Receipt, Recording, place_asked
 from .telling import FIRST_STEPS, LAST_STEPS, MOST_STEPS
 
+ENOUGH_REPLICAS = 3  # that show two elements, so that one which shows them otherwise stands alone
 MOST_LOOKED_AT = 20  # responses of an author before its insert
 ENOUGH_FINE = 3  # inserts beside deleted elements that went well
 MOST_ASTRAY = 20  # changes that may have been lost that are looked at
@@ -150,6 +151,31 @@ class Evidence:
                 one.replica != insert.replica or one.line > receipt.line for one in alike):
             return None
         return insert, other, receipt, own
+
+    @cached_property
+    def odd_one(self) -> tuple | None:
+        """Of a refusal of two, of which neither author had the other's, whether all replicas that show both, three at least, show them first in one
+        order but one: the others' numbers, the first response of the one that does not, and the receipt with which the later of the two came there."""
+        if self.report.get("k") != 2:
+            return None
+        inserts = [self.recording.inserts[name][0] for name in self.elements]
+        if inserts[0].has_seen(inserts[1]) or inserts[1].has_seen(inserts[0]):
+            return None
+        first = [next((one for one in stream if set(self.elements) <= set(one.response)), None) for stream in self.recording.streams]
+        shown = {one.replica: one for one in first if one is not None}
+        orders = {replica: follows(self.elements, one.response) for replica, one in shown.items()}
+        odd = [replica for replica, order in orders.items() if list(orders.values()).count(order) == 1]
+        if len(orders) < ENOUGH_REPLICAS or len(odd) != 1:
+            return None
+        receipts = [self.recording.arrival(insert, odd[0]) for insert in inserts if insert.replica != odd[0]]
+        last = max(filter(None, receipts), key=lambda receipt: receipt.line, default=None)
+        if last is None or self.recording.is_delivered(last.line) or last.line > self.last_line:
+            return None
+        return [replica for replica in orders if replica != odd[0]], shown[odd[0]], last
+
+    def on_their_way(self, receipt: Receipt) -> list:
+        """The changes that a replica had made before a receipt, and that the author of what came had not seen."""
+        return [change for change in self.recording.changes() if change.replica == receipt.replica and change.line < receipt.line and not receipt.seen.has_seen(change)]
 
     @cached_property
     def turned_by_itself(self) -> tuple | None:
