@@ -1769,7 +1769,8 @@ fn is_of_another(path: &Path) -> bool {
 /// Removes the marks of a run that has ended.
 fn forget(folder: &Path) {
     for mark in fs::read_dir(folder).into_iter().flatten().flatten() {
-        if matches!(mark.path().extension(), Some(ending) if ending == MARK) {
+        let is_mark = matches!(fs::read_to_string(mark.path()), Ok(number) if number.bytes().all(|byte| byte.is_ascii_digit()));
+        if is_mark && matches!(mark.path().extension(), Some(ending) if ending == MARK) {
             let _ = fs::remove_file(mark.path()); // another may have done so
         }
     }

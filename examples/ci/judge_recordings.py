@@ -6,7 +6,8 @@ one that fails in the fewest lines. First it removes what it left there before, 
 anything else, it leaves that alone and ends. It prints the first explanation whole, and of failures that look alike one line. It prints
 annotations where GitHub runs it, and writes `annotations.json` for GitLab. It ends with the status of domepeeler-judge-many: 0 where all are accepted, 1 where the
 editor failed, 2 where the recordings or the setting are at fault. Words behind the folder are options for domepeeler-judge-many; with
-`--weak`, of an editor that promises the weak list specification alone, recordings pass where that holds."""
+`--weak`, of an editor that promises the weak list specification alone, recordings pass where that holds. `--program`, `--editor` and
+that one hold for the explanations too. Of two runs at once in one place the second ends with 2."""
 from __future__ import print_function
 
 import os
@@ -40,6 +41,8 @@ JUDGED, JUNIT, ANNOTATIONS = Path("judged"), "junit.xml", "annotations.json"
 MADE = ".made"  # the list of the files that it leaves there, which is there before them
 OF_EACH = "html", "trace", "trace.lines"  # files of each failure
 IN_MESSAGES, IN_PROPERTIES = "%\r\n", "%\r\n:,"  # marks that GitHub wants escaped
+OF_BOTH = "--program", "--editor"  # options for both tools, each with a word
+LOCKED = []  # the folder, while this run is at work in it
 WEAK, WEAK_ALONE = "--weak", "weak holds, strong doesn't"
 STOPS = signal.SIGINT, signal.SIGTERM, signal.SIGHUP
 MOST_LEFT = 3  # names of other files that are told
@@ -143,9 +146,31 @@ def say(words):
         pass
 
 
+def goal_of(options):
+    """Those of the options that hold for an explanation too."""
+    both = [option for option, before in zip(options, [""] + options) if option in OF_BOTH or before in OF_BOTH]
+    return [option for option in options if option == WEAK or option.startswith(tuple("%s=" % one for one in OF_BOTH))] + both
+
+
+def lock():
+    """Lets no other run work in the folder while this one does; but where the system has no such locks."""
+    try:
+        import fcntl
+    except ImportError:
+        return
+    LOCKED.append(os.open(JUDGED, os.O_RDONLY))
+    try:
+        fcntl.flock(LOCKED[-1], fcntl.LOCK_EX | fcntl.LOCK_NB)
+    except BlockingIOError:
+        raise Failed("another run is at work in the folder %s" % JUDGED)
+    except OSError:  # as of some folders of a network
+        pass
+
+
 def prepare():
     """Makes the folder, or takes away what an earlier run has left in it."""
     JUDGED.mkdir(exist_ok=True)
+    lock()
     made = JUDGED / MADE
     own = [MADE] + made.read_text().splitlines() if made.is_file() else []
     others = sorted(set(os.listdir(JUDGED)) - set(own))
@@ -195,7 +220,7 @@ def judge_by(pool, folder, options):
         printed = repr(done.stdout[:MOST_SHOWN])[1:-1]
         raise Failed("domepeeler-judge-many ended with status %d, and printed no recordings: %s" % (done.returncode, printed))
     rows = [row for row in rows if JUDGED.resolve() not in Path(row["file"]).resolve().parents]
-    goal = [WEAK] if WEAK in options else []
+    goal = goal_of(options)
     if rows and done.returncode in (0, 1, 2) and not (JUDGED / JUNIT).is_file():
         print(done.stderr, end="", file=sys.stderr)
         raise Failed("domepeeler-judge-many ended with status %d, and wrote no %s" % (done.returncode, JUDGED / JUNIT))
@@ -212,13 +237,13 @@ def judge_by(pool, folder, options):
         os.replace(part, JUDGED / ANNOTATIONS)
     check_agrees(done.returncode, rows)
     if done.returncode == 0:
-        print("all recordings below %s %s" % (repr(folder)[1:-1], "keep the weak list specification" if goal else "are accepted"))
+        print("all recordings below %s %s" % (repr(folder)[1:-1], "keep the weak list specification" if WEAK in goal else "are accepted"))
     if rows:
         pages = [JUDGED / ("%d.html" % number) for number in range(1, len(rows) + 1)]
         made = [page for page in pages if page.exists()]
         first = "of the first" if made[:1] == pages[:1] else "of the first that has one"
         page = ", and %s is the page %s" % (made[0], first) if made else ""
-        print("%d %s: %s/junit.xml has them all%s" % (len(rows), "failed" if goal else "not accepted", JUDGED, page))
+        print("%d %s: %s/junit.xml has them all%s" % (len(rows), "failed" if WEAK in goal else "not accepted", JUDGED, page))
     return done.returncode
 
 

@@ -10,6 +10,7 @@ if sys.version_info < (3, 9):  # in words that an older Python can read
     sys.exit(2)
 
 import json
+import os
 
 from domepeeler import Recording, Refused
 
@@ -26,6 +27,8 @@ def record(recording, entry):
 
 
 log, trace = sys.argv[1:]
+if os.path.exists(trace) and os.path.samefile(log, trace):
+    sys.exit("convert.py: the trace would be written over the log")
 recording = Recording(2)
 with open(log, encoding="utf-8") as lines:
     for number, line in enumerate(lines, 1):

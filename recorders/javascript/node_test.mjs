@@ -17,7 +17,8 @@
 //     await accepted(recording, "failed.trace") // which judges what is recorded by then
 //
 // It is handed to test() itself: a test that answers it, as by `() => recorded(2, ...)`, would run nothing, and fails. One that makes it and
-// does not answer it, as by `() => { recorded(2, ...) }`, is told of on standard error when the process ends.
+// does not answer it, as by `() => { recorded(2, ...) }`, fails the process. What is made elsewhere and never called is told of on standard
+// error when the process ends, unless some tests alone were to run: perhaps it was skipped.
 //
 // With { stop: true } as a last argument of recorded() the test fails in the call that answered wrong, and its error's stack begins there.
 //
@@ -26,7 +27,7 @@
 import { executionAsyncResource } from "node:async_hooks"
 import { createHash } from "node:crypto"
 import { readFileSync, readlinkSync } from "node:fs"
-import { mkdir, readdir, rm, rmdir, stat, writeFile } from "node:fs/promises"
+import { mkdir, readFile, readdir, rm, rmdir, stat, writeFile } from "node:fs/promises"
 import { basename, dirname, join, relative, resolve } from "node:path"
 import { NotAccepted as Stopped, Recording } from "./domepeeler.mjs"
 
@@ -48,9 +49,14 @@ const warned = new Set() // paths of properties of which a recording has hidden 
 const watched = new Map() // by recording: its test, and its state when it was judged, if it was
 
 process.on("exit", () => {
-  for (const { test, neverCalled } of uncalled.values()) {
-    console.error(`${test ?? "domepeeler"}: ${UNCALLED}\n${neverCalled.stack.replace(/^.*\n/, "")}`)
-    if (test) process.exitCode ||= 1 // nothing can call it any more, and a reporter may hush what is told
+  const within = [...uncalled.values()].filter(({ test }) => test), others = [...uncalled.values()].filter(({ test }) => !test)
+  for (const { test, neverCalled } of within) {
+    console.error(`${test}: ${UNCALLED}\n${linesOf(neverCalled)}`)
+    process.exitCode ||= 1 // nothing can call it any more, and a reporter may hush what is told
+  }
+  if (others.length) {
+    const more = others.length > 1 ? ` (and ${others.length - 1} more like it)` : ""
+    console.error(`domepeeler: ${UNCALLED}${more}\n${linesOf(others[0].neverCalled)}`)
   }
   for (const [recording, { test, state }] of watched) {
     if (isSame(stateOf(recording), state)) continue
@@ -61,6 +67,10 @@ process.on("exit", () => {
     process.exitCode ||= 1
   }
 })
+
+function linesOf(error) {
+  return error.stack.replace(/^.*\n/, "")
+}
 
 /** The recording is not accepted, or was not judged. */
 export class NotAccepted extends Stopped {
@@ -249,7 +259,10 @@ async function isOfAnother(path) {
 
 // Removes the marks of a run that has ended.
 async function forget(folder) {
-  for (const name of (await readdir(folder).catch(() => [])).filter((name) => name.endsWith(MARK))) await rm(join(folder, name)).catch(() => {})
+  for (const name of (await readdir(folder).catch(() => [])).filter((name) => name.endsWith(MARK))) {
+    const file = join(folder, name)
+    if (/^[0-9]*$/.test(await readFile(file, "latin1").catch(() => "none"))) await rm(file).catch(() => {}) // else it is none
+  }
   await rmdir(folder).catch(() => {})
 }
 

@@ -17,6 +17,7 @@ import sys
 import tempfile
 import time
 import xml.etree.ElementTree as xml
+from concurrent.futures import ThreadPoolExecutor
 from itertools import product
 from pathlib import Path
 
@@ -282,6 +283,26 @@ def odd_names_in_ci(tally: Tally, folder: str, path: str, script: str) -> None:
         2, "", "judge_recordings: the folder judged holds what this script did not write (z\\n::error::\\x1b[31m): move it away\n"), done)
 
 
+def options_of_ci(tally: Tally, program: str, folder: str, path: str, step: str) -> None:
+    """The program and the editor's kind that are named hold for the explanations too; and of two runs at once in one place the second judges nothing."""
+    project = project_of(folder, {"lost.trace": FAILING["lost.trace"]})
+    counting = Path(project, "counting")
+    counting.write_text(f"#!/bin/sh\necho >> counted\ntest -z \"$SLOW\" || sleep 3\nexec {program} \"$@\"\n")
+    counting.chmod(0o755)
+    for words in ["--program", "./counting", "--editor", "tree"], ["--program=./counting", "--editor=tree"]:
+        done = in_ci(project, path, f"{step} {' '.join(words)}", {})
+        tally.check(f"CI: options for both tools: {words}", done.returncode == 1 and "Name the editor's kind" not in done.stdout and Path(project, "judged/1.html").is_file() and
+                    len(Path(project, "counted").read_text()) > 3, done)
+        Path(project, "counted").unlink()
+    with ThreadPoolExecutor(1) as pool:
+        first = pool.submit(in_ci, project, path, f"{step} --program ./counting", {"SLOW": "1"})
+        while not Path(project, "counted").exists():
+            time.sleep(0.05)
+        second = in_ci(project, path, step, {})
+    tally.check("CI: a second run at once", (second.returncode, second.stdout, second.stderr) == (
+        2, "", "judge_recordings: another run is at work in the folder judged\n") and first.result().returncode == 1, (first.result(), second))
+
+
 def jobs_of_ci(tally: Tally, program: str, folder: str) -> None:
     """The jobs install the package by the name that it has, and their last step judges, annotates and keeps the pages."""
     version = run(program, ["--version"]).out.decode().split()[1]
@@ -297,6 +318,7 @@ def jobs_of_ci(tally: Tally, program: str, folder: str) -> None:
     step = wanted[-1]
     in_github(tally, project_of(folder, ACCEPTED | FAILING), path, step)
     in_gitlab(tally, project_of(folder, {"b/unread.trace": "0 reads :", "lost.trace": FAILING["lost.trace"]} | ACCEPTED), path, step)
+    options_of_ci(tally, program, folder, path, step)
     done = in_ci(project_of(folder, ACCEPTED), path, step, {"GITHUB_ACTIONS": "true"})
     told = "all recordings below recordings are accepted\n"
     tally.check("CI: all accepted", (done.returncode, done.stdout, done.stderr) == (0, told, ""), done)

@@ -453,6 +453,7 @@ test("within", async (context) => {
 })
 test("block", () => { recorded(1, body) }) // answers nothing
 test("skipped", { skip: true }, recorded(1, body))
+recorded(1, body) // handed to nobody
 """
 
 # A thread that begins to record when its test has ended, and still does when pytest ends; it records what is right.
@@ -664,6 +665,7 @@ const failing = Object.defineProperty(["a"], 0, { get: fail })
 for (const act of [() => recording.read(0, failing), () => recording.receivedChanges(1, { [Symbol.iterator]: fail }),
                    () => recording.delivered([["a"], failing])]) try { act() } catch { /* as an event loop does */ }
 console.log((await recording.warnings())[0])
+recording.text() // so that nothing is said at the end
 '''
 
 # Tests of Node of which one ends the process, in its body or in a hook.
@@ -1628,6 +1630,28 @@ def check_two_runs(tally: Tally, place: Place, runs: TwoRuns, more: list | None 
         tally.check(f"{name}: a run alone that passes removes all", done.returncode == 0 and left == [], (left, done.stdout))
 
 
+def check_marks(tally: Tally, place: Place, runs: TwoRuns) -> None:
+    """A trace that a run of another container has saved stays for a day, and what is no mark stays for ever. Where a trace can't be marked it is saved
+    all the same."""
+    folder = place.folder / runs.folder / "failed_traces"
+    trace, mark = folder / f"{runs.trace}.trace", folder / ".runs/1-5-99" / f"{runs.trace}.mark"
+    for days in 0, 2:
+        shutil.rmtree(folder, ignore_errors=True)
+        place.make(str(mark.relative_to(place.folder)), "")
+        foreign = [place.make(f"{runs.folder}/failed_traces/.runs/{name}", "mine\n") for name in ("notes/x.txt", "1-5-98/x.txt", "2026-11-30/x.mark")]
+        trace.write_text("another's\n")
+        for one in folder.glob(".runs/*"):
+            os.utime(one, (time.time() - days * 86400,) * 2)
+        done = place.run(runs.words, runs.folder, NAME="right")
+        tally.check(f"{runs.name}: a trace of another container, {days} days old", done.returncode == 0 and trace.exists() == (days == 0) == mark.exists(), done.stdout)
+        tally.check(f"{runs.name}: what is no mark, {days} days old", [Path(one).is_file() for one in foreign] == [True, True, True], foreign)
+    shutil.rmtree(folder)
+    place.make(f"{runs.folder}/failed_traces/.runs", "no folder\n")
+    done = place.run(runs.words, runs.folder, LOST="1", NAME="lost")
+    tally.check(f"{runs.name}: a trace that can't be marked is saved", trace.is_file() and trace.name in done.stdout, done.stdout)
+    shutil.rmtree(folder)
+
+
 def check_two_runs_of_pytest(tally: Tally, place: Place, command: list) -> None:
     """Of two runs of pytest, also of its workers, as of others; and of workers which all run the same test."""
     place.make("python/test_runs.py", TWO_RUNS)
@@ -1745,7 +1769,9 @@ def check_javascript(tally: Tally, place: Place) -> None:
     tally.check("node --test: a path of its own", own == [".gitignore", "awaited.trace", "awaited.trace.lines"], own)
     check_ends_of_node(tally, place)
     place.make("packed/runs.test.mjs", TWO_RUNS_OF_NODE)
-    check_two_runs(tally, place, TwoRuns("Node", ["node", "--test", "--test-reporter=tap", "runs.test.mjs"], "packed", "runs.test.mjs--soon"))
+    runs = TwoRuns("Node", ["node", "--test", "--test-reporter=tap", "runs.test.mjs"], "packed", "runs.test.mjs--soon")
+    check_two_runs(tally, place, runs)
+    check_marks(tally, place, runs)
     check_weak_of_node(tally, place)
     check_stop_of_node(tally, place)
     place.make("folder/editor.test.mjs", NODE_TEST)
@@ -1822,6 +1848,13 @@ def check_ends_of_node(tally: Tally, place: Place) -> None:
     told = done.stdout.partition("# block: what recorded() made here was never called, so it recorded nothing")[2]
     tally.check("node --test: what recorded() makes and nobody answers is told of", f"never.test.mjs:{line_with(NEVER_CALLED, '// answers nothing')}:" in told and
                 not any(f"# {name}: what recorded() made" in done.stdout for name in ("arrow", "awaits", "within", "inner", "skipped")), done.stdout)
+    others = f"domepeeler: what recorded() made here was never called, so it recorded nothing: was its test skipped, or is it not handed to test()? (and 1 more like it)"
+    tally.check("node --test: what it makes elsewhere is told of too", others in done.stdout and
+                f"never.test.mjs:{line_with(NEVER_CALLED, 'skip: true')}:" in done.stdout.partition(others)[2], done.stdout)
+    chosen = place.run([*words[:-1], "--test-name-pattern=inner", "never.test.mjs"], "packed")
+    tally.check("node --test: but where some tests alone are to run", "domepeeler: what recorded() made" not in chosen.stdout, chosen.stdout)
+    alone = place.run([*words[:-1], "--test-reporter=dot", "--test-name-pattern=block", "never.test.mjs"], "packed")
+    tally.check("node --test: it fails where a reporter hushes that", alone.returncode == 1, alone.stdout)
     done = place.run(words_refused, "packed", TIMER="1")
     tally.check("node --test: a call that is refused later still is told of", done.returncode == 1 and "ok 2 - timer" in done.stdout and
                 "timer: a call was refused when the test had ended, so what it says was not judged" in done.stdout, done.stdout)
@@ -1922,8 +1955,57 @@ def check_rust(tally: Tally, place: Place) -> None:
     tally.check("Rust: README's way for a network that delivers in any order", done.stdout == TAKEN, done.stdout)
     place.make("rust/tests/runs.rs", TWO_RUNS_OF_RUST)
     place.run(["cargo", "test", "--offline", "--quiet", "--test", "runs", "--no-run"], "rust")  # so that the two don't wait for this
-    check_two_runs(tally, place, TwoRuns("cargo", ["cargo", "test", "--offline", "--quiet", "--test", "runs"], "rust", "runs-soon", ".run"))
+    runs = TwoRuns("cargo", ["cargo", "test", "--offline", "--quiet", "--test", "runs"], "rust", "runs-soon", ".run")
+    check_two_runs(tally, place, runs)
+    check_marks(tally, place, runs)
     (place.folder / "rust/tests/runs.rs").unlink()
+    check_same_names(tally, place)
+
+
+# A module of a library and of a program, whose tests fail in the library; two of them come to one name.
+SAME_NAMES = """
+#[cfg(test)]
+mod tests {
+    use domepeeler::Recording;
+
+    fn ask(name: &str) {
+        let mut recording = Recording::new(1).unwrap();
+        let is_lost = crate::FAILS && std::env::var_os("LOST").is_some();
+        recording.insert(0, name, 0, if is_lost { &[] } else { std::slice::from_ref(&name) }).unwrap();
+        recording.assert_accepted();
+    }
+
+    #[test]
+    fn two_users() {
+        ask("a")
+    }
+
+    #[test]
+    fn tést() {
+        ask("b")
+    }
+
+    #[test]
+    fn tüst() {
+        ask("c")
+    }
+}
+"""
+
+
+def check_same_names(tally: Tally, place: Place) -> None:
+    """Of tests with the same name in a library and its program, and of those whose names have the same letters but for signs, each keeps its trace."""
+    shutil.copytree(place.folder / "rust", place.folder / "same", ignore=shutil.ignore_patterns("target", "tests", "src", "failed*"))
+    place.make("same/src/editor.rs", SAME_NAMES)
+    for name, fails, more in ("lib", "true", ""), ("main", "false", "fn main() {}\n"):
+        place.make(f"same/src/{name}.rs", f"#[cfg(test)]\nconst FAILS: bool = {fails};\nmod editor;\n{more}")
+    folder = place.folder / "same/failed_traces"
+    done = place.run(["cargo", "test", "--offline", "--quiet", "--no-fail-fast"], "same", LOST="1", CARGO_TARGET_DIR=str(place.folder / "rust/target"))
+    saved = {path.stem: path.read_text().split()[6] for path in folder.glob("*.trace")}
+    tally.check("cargo: tests with the same name in a library and its program, and of other tests", set(saved.values()) == {"a", "b", "c"} and
+                saved.get("own-editor-tests-two_users") == "a" and {"own-editor-tests-t-st", "own-editor-tests-t-st-2"} < set(saved), (saved, done.stdout))
+    done = place.run(["cargo", "test", "--offline", "--quiet", "--no-fail-fast"], "same", CARGO_TARGET_DIR=str(place.folder / "rust/target"))
+    tally.check("cargo: where they pass their traces are removed", done.returncode == 0 and not list(folder.glob("*.trace")), done.stdout)
 
 
 def check_proptest(tally: Tally, place: Place) -> None:
