@@ -1420,6 +1420,12 @@ def test_pickled(recording):
     refuses(pickle.loads(pickle.dumps(recording)))
 
 
+def test_many_begun_since(recording):
+    os.waitpid(forked(lambda: refuses(recording)), 0)
+    for _ in range(9000):
+        Recording(1)
+
+
 def test_thread(recording):
     thread = threading.Thread(target=refuses, args=[copy.deepcopy(recording)])
     thread.start()
@@ -1466,10 +1472,10 @@ def check_copies_of_pytest(tally: Tally, place: Place, command: list) -> None:
     goes to a process that is spawned."""
     place.make("python/test_copies.py", COPIES)
     done = place.run(command, "python")
-    tally.check("pytest: counts of copies", done.returncode == 1 and re.search("^9 failed, 1 passed in ", done.stdout, re.MULTILINE), done.stdout)
+    tally.check("pytest: counts of copies", done.returncode == 1 and re.search("^10 failed, 1 passed in ", done.stdout, re.MULTILINE), done.stdout)
     said = dict(zip(*[iter(re.split(r"^_{3,} (.+) _{3,}$", done.stdout.split("= short test summary")[0], flags=re.MULTILINE)[1:])] * 2))
     wanted = {"copied": OF_A_COPY, "pickled": OF_A_COPY, "thread": OF_A_COPY, "pool": OF_A_COPY, "executor": OF_A_COPY, "process[fork]": OF_A_FORK,
-              "begun_elsewhere": OF_A_FORK, "process[spawn]": "Refused: this is a copy of a recording", "process[forkserver]": "Refused: this is a copy of a recording"}
+              "begun_elsewhere": OF_A_FORK, "many_begun_since": OF_A_FORK, "process[spawn]": "Refused: this is a copy of a recording", "process[forkserver]": "Refused: this is a copy of a recording"}
     for name, words in wanted.items():
         tally.check(f"pytest: copies: {name}", words in said.get(f"test_{name}", ""), said.get(f"test_{name}", done.stdout))
 
