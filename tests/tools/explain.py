@@ -1764,6 +1764,57 @@ def kinds(tally: Tally, program: str, folder: str) -> None:
     tally.check("kinds: nothing of an accepted trace", hint not in explain(program, [str(path)]).out)
 
 
+# By what is told first: the editor's kind, how many replicas there are, the entries, and the words.
+FIRST_TOLD = {
+    "own changes on their way": ("positions", 3, "0 ins a 0 : a|1 recv 0 1|2 recv 0 1|1 read : a|2 read : a|1 ins b 1 : a b|1 del a : b|0 ins c 1 : a c|2 recv 0 2|2 read : a c|1 recv 0 2|1 read : b",
+        "When 0.2 came in line 13, replica 1 had changes of its own on their way, which its author had not seen: the insert of b by 1.2 (line 8) and the delete of a by 1.3 (line 9). Replica 2 "
+        "received 0.2 too, and shows c in 2.2 (line 12). So c perhaps came well, and one of these deletes took it along. Look at how the replica's own changes that are still on their way are "
+        "adjusted for what arrives (each of two over the other as that was before), and at how it takes them back and applies them anew, if it does."),
+    "a delete on its way that meets the same": ("positions", 2, "0 ins a 0 : a|0 ins b 1 : a b|1 recv 0 2|1 read : a b|1 del a : b|0 del a : b|0 ins c 1 : b c|1 recv 0 4|1 read : b",
+        "When 0.4 came in line 10, replica 1 had changes of its own on their way, which its author had not seen: the delete of a by 1.2 (line 7). So c perhaps came well, and one of these deletes took "
+        "it along, as the one of a, which 0.3 (line 8) deletes as well. Look at"),
+    "own changes that are gone": ("identifiers", 2, "0 ins a 0 : a|0 ins b 1 : a b|0 del a : b|0 read : a",
+        "Replica 0 showed its own changes in 0.3 (line 5), and shows them no more: the insert of b by 0.2 (line 4) and the delete of a by 0.3 (line 5). No other replica shows that it has them. Look at "
+        "what takes the place of its list, such as a state from elsewhere that was made without them, or at how they are taken back and applied anew; and at what keeps own changes until they are "
+        "confirmed, and when it lets go of them."),
+    "own changes that others have, gone when something came": ("", 2, "0 ins a 0 : a|0 ins b 1 : a b|1 recv 0 2|1 read : a b|1 ins c 2 : a b c|0 recv 1 2|0 read : c",
+        "Replica 0 showed its own changes in 0.2 (line 4), and shows them no more: the insert of a by 0.1 (line 3) and the insert of b by 0.2 (line 4). Since then it received the insert of c by 1.2 "
+        "(line 7). Look at what takes the place of its list"),
+    "a place from before what came": ("neighbours", 2, "0 ins a 0 : a|0 ins b 1 : a b|0 ins c 2 : a b c|0 ins d 3 : a b c d|1 recv 0 4|1 del a : b c d|0 recv 1 1|0 ins e 2 : b e c d",
+        "[e] stands where position 2 was in 0.4 (line 6): since then replica 0 received the delete of a by 1.1 (line 8). Does the editor keep something from before that, such as a place, an offset, an "
+        "index or a copy of the list? Then what arrives must change it, each kind of change."),
+    "an order that a delete hides": ("neighbours", 3, "0 ins n 0 : n|1 ins o 0 : o|2 recv 0 1|2 recv 1 1|2 read : n o|2 ins l 1 : n l o|0 del n :|0 recv 1 1|0 read : o|0 recv 2 2|0 read : o l",
+        "[l] was put directly behind n (0.1 (line 3)), and n and [o] were inserted at the front without knowing of each other. n is deleted at replica 0, which never showed both: perhaps it has these "
+        "two in another order than replica 2, and [l] follows n there. So look at the order of concurrent inserts, n and [o], first: at what is done in line 5, line 6 and line 10."),
+    "one replica alone in its order": ("positions", 3, "2 ins a 0 : a|2 ins b 0 : b a|1 ins c 0 : c|2 recv 1 1|2 read : b c a|0 recv 1 1|0 recv 2 1|0 read : a c|1 recv 2 1|1 read : a c",
+        "Replicas 0 and 1 show a before c. Replica 2 alone shows them the other way round, first in 2.3 (line 7): so look first at what it did in line 6, when 1.1 came. It had two changes of its own on "
+        "their way then: the insert of a by 2.1 (line 3) and the insert of b by 2.2 (line 4). What comes must be adjusted for each of these, one after the other (each in turn as what comes became by "
+        "the one before), and each of these for what comes; also where some wait in a buffer behind one that is sent."),
+    "one replica alone, with one change on its way": ("positions", 3, "2 ins a 0 : a|1 ins c 0 : c|2 recv 1 1|2 read : c a|0 recv 1 1|0 recv 2 1|0 read : a c|1 recv 2 1|1 read : a c",
+        "Replicas 0 and 1 show a before c. Replica 2 alone shows them the other way round, first in 2.2 (line 6): so look first at what it did in line 5, when 1.1 came. It had one change of its own on "
+        "its way then, the insert of a by 2.1 (line 3). What comes must be adjusted for that, and that for what comes."),
+    "a delete that hits what came with it": ("positions", 2, "0 ins a 0 : a|0 ins b 1 : a b|0 del b : a|1 recv 0 3|1 read : b",
+        "It looks as if 0.3 (line 5), applied at replica 1, deleted a instead of b"),
+    "identifiers where an author is alone": ("identifiers", 2, f"{BESIDE_DELETED}|0 recv 1 2|0 read : c d", "Print the position identifiers of"),
+}
+
+
+def first_told(tally: Tally, program: str, folder: str) -> None:
+    """What is told first, and where a debugger stops by it, where the editor's kind is named; and that nothing stands alone as what is left."""
+    path = Path(folder, "first.trace")
+    for name, (kind, replicas, entries, words) in FIRST_TOLD.items():
+        path.write_text(text_of(replicas, entries))
+        told = explain(program, [*(["--editor", kind] if kind else []), str(path)]).out.decode()
+        first = told.partition("Where to look\n  ")[2]
+        tally.check(f"first told: {name}", first.startswith(words), f"{path.read_text()}{told}")
+        if "one replica alone" in name:
+            tally.check(f"first told: {name}: the debugger", f"\n  stop before line {'6' if 'with one' not in name else '5'} of the trace, where replica 2 applies 1.1" in told, told)
+    path.write_text(text_of(2, "0 ins x 0 : x|0 ins y 1 : x y|1 recv 0 2|1 read : x y|1 del x : y|0 ins z 1 : x z y|1 recv 0 3|1 read : y"))
+    for kind in "identifiers", "neighbours":
+        first = explain(program, ["--editor", kind, str(path)]).out.decode().partition("Where to look\n  ")[2]
+        tally.check(f"first told: {kind}: a cause stands before what is left", not first.startswith("If ") and first.count("If none of these") <= first.split("In a debugger")[0].count("\n") - 3, first)
+
+
 def named_as_operations(tally: Tally, program: str, folder: str) -> None:
     """Elements that a user names as operations are named, 0.2 or so, are told apart from these in the words, and stay as they are in a small trace."""
     path, small = Path(folder, "dotted.trace"), Path(folder, "dotted_small.trace")
@@ -2463,6 +2514,7 @@ def main() -> None:
     with tempfile.TemporaryDirectory() as folder:
         kinds(tally, program, folder)
         named_as_operations(tally, program, folder)
+        first_told(tally, program, folder)
         planted_bugs(tally, program, folder)
         updates_of_several(tally, program)
     with tempfile.TemporaryDirectory() as folder:
