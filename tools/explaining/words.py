@@ -7,7 +7,8 @@ import re
 from typing import NamedTuple
 
 from . import debuggers
-from .causes import ALONE, Cause, astray, causes_of, otherwise
+from .cause import ALONE, Cause, astray, otherwise
+from .causes import causes_of
 from .evidence import MOST_ARRIVED, Evidence
 from .kinds import POSITIONS, TREE
 from .programs import WEAK_ALONE, is_weak_alone

@@ -1,0 +1,84 @@
+"""What causes of a verdict have in common: how one is told, and what is told of changes that arrive."""
+from __future__ import annotations
+
+from typing import NamedTuple
+
+from .evidence import Evidence
+from .telling import at, listed
+
+ALONE = "weak alone"  # the name of the last cause: that weak holds
+MOST_TOLD = 3  # deletes, or elements, that are told one by one
+MOST_MET = 6  # changes for which a position was perhaps not adjusted
+LOST = ("Look first at whether {changes} {were} lost on {their} way to replica {replica}, or overtaken: no receipt there names {them}, though {others}. "
+        "In an editor that sends positions, later changes then land in the wrong place.")
+OTHERS_HAVE = "all other changes of replica {author} have one"
+ELSEWHERE_ONE = {True: "at another replica it has one", False: "at other replicas they have some"}
+PUT_AT_ONCE = {True: " At the place of {element} also {others} was inserted, and neither author had the other's insert. Look also at which of them comes first.",
+               False: " At the place of {element} also {others} were inserted; their authors did not have {element}, nor its author theirs. Look also at which of "
+                      "them comes first."}
+OWN_ADJUSTED = "how the replica's own changes that are still on their way are adjusted for what arrives (each of two over the other as that was before), and at how it takes them back and applies them anew, if it does."
+BY_ITSELF = "perhaps deleted elements are thrown away there, changes that were held back are applied, or a copy of the list that is shown is made anew."
+
+
+class Cause(NamedTuple):
+    name: str
+    told: str
+
+
+def otherwise(condition: str, look: str) -> str:
+    """The words on a second cause, under a condition."""
+    return f"{condition}: {look[0].lower()}{look[1:]}"
+
+
+def astray(evidence: Evidence) -> list:
+    """The changes that may have been lost, each with the replica where it is lacking; but where it is told as overtaken."""
+    told = [change for change, _ in evidence.overtakings[:1]]
+    return [(change, replica) for change, replica in evidence.unreceived if change not in told]
+
+
+def lost(evidence: Evidence) -> list:
+    found = astray(evidence)
+    changes = [change for change, replica in found if (change.replica, replica) == (found[0][0].replica, found[0][1])]
+    is_one = len(changes) == 1
+    return [Cause("lost", LOST.format(
+        replica=replica, their="its" if is_one else "their", them="it" if is_one else "them", **changes_told(changes),
+        others=OTHERS_HAVE.format(author=change.replica) if evidence.recording.are_named(change.replica, changes, replica) else ELSEWHERE_ONE[is_one]))
+        for change, replica in found[:1]]
+
+
+def shown_in_orders(evidence: Evidence, one: str, two: str) -> tuple:
+    """The first responses that show two elements in the one order, and in the other; none where there is no such."""
+    found = {}
+    for operation in evidence.shown_up_to_last:
+        names = operation.response
+        if one in names and two in names:
+            found.setdefault(names.index(one) < names.index(two), operation)
+    return found.get(True), found.get(False)
+
+
+def is_agreed(evidence: Evidence, one: str, two: str, replicas: set) -> bool:
+    """Whether these replicas show two elements, and all that do in one order."""
+    shown = {operation.replica for operation in evidence.shown_up_to_last if one in operation.response and two in operation.response}
+    return replicas <= shown and not all(shown_in_orders(evidence, one, two))
+
+
+def changes_told(changes: list) -> dict:
+    """Changes for a sentence, and its words for one or several."""
+    is_one = len(changes) == 1
+    return {"changes": listed(list(map(at, changes)), MOST_TOLD), "were": "was" if is_one else "were",
+            "They": "It was" if is_one else "They were", "are": "is" if is_one else "are"}
+
+
+def is_deleted(evidence: Evidence, name: str) -> bool:
+    """Whether an element is deleted for one of the responses of a refusal."""
+    return any(operation.has_seen(delete) for operation in evidence.operations for delete in evidence.recording.deletes.get(name, []))
+
+
+def at_once(element: str, others: list) -> str:
+    return PUT_AT_ONCE[len(others) == 1].format(element=element, others=listed(others, MOST_TOLD))
+
+
+def named(changes: list) -> str:
+    """Changes with what they changed."""
+    what = {"ins": "insert", "del": "delete"}
+    return listed([f"the {what[change.kind]} of {change.element} by {at(change)}" for change in changes], MOST_MET)

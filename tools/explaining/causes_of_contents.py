@@ -1,0 +1,432 @@
+"""Where to look in the editor where a response holds other elements than it should, the likeliest cause first."""
+from __future__ import annotations
+
+from .cause import BY_ITSELF, MOST_TOLD, OWN_ADJUSTED, Cause, astray, at_once, changes_told, is_agreed, is_deleted, lost, named, otherwise, shown_in_orders
+from .evidence import Evidence
+from .kinds import POSITIONS, is_possible
+from .positions import met, met_before, neighbours, not_behind, put_there_at_once
+from .programs import GUIDE
+from .recordings import Operation
+from .telling import at, joined, listed
+
+ARRIVAL = ("Check {things}, one after the other. Recorder: `received` must be called right after the change is applied. {transport}"
+           "Editor: does it lose a change, apply it twice, or apply it to another element? " f"{GUIDE} says where the calls go.")
+TRANSPORT = "Transport: a change must arrive after all those that its author had seen. "
+LOCAL = ("Nothing came between {before} and this, so look at the local {what} itself: what it takes from the list or puts there, and which ids it puts into the change that it sends.")
+APPLIED_TWICE = ("It looks as if {changes} {were} applied twice at replica {replica}: look at what the editor does with a change that arrives a second "
+                 "time{back}, and at whether a change that was held back is applied twice: on arrival and again later.")
+OWN_BACK = " (a server may send a replica its own changes back)"
+UNDELIVERED = ("Only `delivered` ({lines}) says that {changes} arrived at replica {replica}; no response before shows {them}. {They} lost, or "
+                  "{are} held back for ever{waiting}; or `delivered` was called too early. Look at what keeps changes waiting.")
+WAITING = " ({others}, made later, perhaps wait{s} for {it})"
+NO_PLACE = (" Perhaps {insert} finds no place there for {element}: its neighbour {neighbours}. An editor that throws deleted elements away too "
+            "early loses such an insert or holds it back for ever.")
+NOT_APPLIED = ("It looks as if {changes} {were} not applied at replica {replica}: lost, or held back, or `received` is called before the "
+               "change is applied.{other}")
+OTHER_DELETE = (" Or it deleted another element, one that was already deleted there: look at how a replica that applies a delete finds the element (is the "
+                "whole id compared?).")
+WAITED_IN_PART = ("{first} {was} done at replica {replica}, but not {then}, which {were} made directly behind. If one change of your editor deletes all of these, it looks as if it was "
+                  "applied in part: look at what a replica does where one of several elements is gone already, or has not come yet; and, if the change waited, at whether it is asked again "
+                  "what is lacking when one thing comes.")
+IN_PART = ("{first} and {then} were made one after the other, and came to replica {replica} together; there {element} was deleted already, by {gone}, and {surplus} "
+           "{is_} still shown. If one change of your editor deletes both, it looks as if it was applied in part: look at what a replica does where one of "
+           "several elements is gone already; it must go on with the others.")
+BROUGHT = ("No receipt at replica {replica} names {changes}: {they} as arrived with {brought}, in line {line}. If you record a receipt for each change, "
+           "{names} {were} lost, or {brought} overtook {them}.")
+NO_RECEIPT = ("It looks as if {changes} {were} applied at replica {replica} without a receipt: the call of `received` is missing, comes "
+              "too late, or names another operation.")
+WRONG_DELETE = ("It looks as if {delete}, applied at replica {replica}, deleted {missing} instead of {surplus}: look at how a replica that applies a "
+                "delete finds the element, and at whether the recorder writes the name of the element that was deleted.")
+WRONG_LOCAL_DELETE = ("It looks as if {delete} deleted {missing} instead of {surplus}: look at how a local delete finds the element, and at whether the recorder writes the name "
+                      "of the element that was deleted.")
+WRONG_POSITION = ("It looks as if {delete}, applied at replica {replica}, deleted {missing} instead of {surplus}: look at how its position is adjusted there, also for changes "
+                  "of the replica's own that its author had not seen; and at whether the recorder writes the name of the element that was deleted.")
+TIED = ("{one} and {two} were inserted at one place without knowing of each other, and are shown in two orders already: {one} before {two} in {before}, {two} before {one} in {after}. "
+        "Look first at the order of concurrent inserts: by another order a later position hits another element.")
+MISNAMED = ("{deletes} delete{s} {named}; but {wrong}, while {missing}. Look at which ids a local delete puts into the change that it sends{several}.")
+NOT_SHOWN = "{element} does not stand in {before}{unknown}"
+SEVERAL_IDS = ": of several elements each has its own, which need not follow from the one before"
+MOVED_DELETE = ("If the editor sends positions, the position of {delete} was perhaps not adjusted for {changes}, which the author of {delete} had "
+                "not seen{back}.{tie}")
+MOVED_BEFORE = "; or an insert that replica {replica} received before was not adjusted for a delete that the insert's author had not seen"
+UNKNOWN = ("No line inserts {names}. Perhaps the insert was not recorded, or under another name; or the document was not empty at first: then let one replica insert "
+           "what was there, and the others receive it.")
+REPLACED = ("Replica {replica} showed {missing} in {before}; since then it only received {came}, and nothing that came deletes {missing}. Look at what {came_first} does there: "
+            "does an arriving state replace the replica's own, or does the editor take back its own changes when others' arrive?")
+VANISHED = "Replica {replica} answered what is right in {before}, and has received nothing since. Look at what replica {replica} itself does between the two{unrecorded}"
+TOO_MUCH = ("It looks as if {deletes}{applied} deleted {missing} along with {theirs}: {missing} stood there in {before}, and no delete of {it} has come there. Look at where "
+            "the replica begins to delete there, and at how many elements it deletes.")
+SECOND_DELETE = {
+    False: "It looks as if {again}{applied} deleted {missing} instead of {element}: look at how a replica that applies a delete finds the element. {element} was already deleted "
+           "there, by {first}, so look also at what the editor does with a delete whose element is gone.",
+    True: "It looks as if {again}{applied} deleted {missing}. Its own element, {element}, was already deleted there, by {first}: such a delete must change nothing. Look at what the "
+          "editor does with it; and at how its position is adjusted there, also for changes of the replica's own that its author had not seen.",
+}
+CAUSAL = ("The engine may be right: operations must arrive in causal order. Apply an operation only after everything that its author had seen, or send all of that together with it. If the editor itself holds operations "
+          f"back, write the receipt of each only when it is applied. {GUIDE} shows what to record in each case.")
+OVERTAKEN = "Look at the order in which operations arrive: {name} was overtaken, as told above. " + CAUSAL
+LOST_OR_OVERTAKEN = ("Look first at whether {name} was lost on its way to replica {replica}: no receipt there names it. If it was not lost but overtaken, "
+                     "look at the order in which operations arrive. ") + CAUSAL
+LOST_NEIGHBOUR = ("If inserts find their place by a neighbour, look at inserts beside deleted elements: when {element} arrived, its neighbour was "
+                  "already deleted there, as told above. An editor that throws deleted elements away too early finds no place for it, and loses it or "
+                  "holds it back for ever.")
+OWN_BACK_AGAIN = "When {came} came{line}, {back} came back, which replica {replica} had deleted itself by {delete}{lost}. Look at "
+OWN_ON_WAY = ("When {came} came{line}, replica {replica} had changes of its own on their way, which its author had not seen: {own}.{elsewhere} So {missing} perhaps came well, and one of these "
+              "deletes took {it} along{twice}. Look at ")
+SHOWN_ELSEWHERE = " Replica {other} received {same} too, and shows {missing} in {operation}."
+TWICE = ", as the one of {element}, which {other} deletes as well"
+OWN_GONE = ("Replica {replica} showed its own changes in {before}, and shows them no more: {own}.{came}{unknown} Look at what takes the place of its list, such as a state from elsewhere that was "
+            "made without them, or at how they are taken back and applied anew; and at what keeps own changes until they are confirmed, and when it lets go of them.")
+CAME_SINCE = " Since then it received {came}."
+OWN_UNKNOWN = " No other replica shows that it has them."
+SHOWN_AGAIN = ("what applies that: is an element that is marked as deleted shown again, made anew by an insert that arrives a second time, or brought back by a state that "
+               "is older than the delete?")
+SPLIT = ("what {new} does there to the elements beside it: is a run (block) of them split, or made anew, without the mark that they are deleted? Else look for a state that is older than "
+         "the delete and takes the place of the replica's own.")
+OWN_LOST = ", and {missing} {is_} not there: perhaps that delete now hits {it}"
+HEALED = "Later replica {other} reads another list in {after} than in {before}, though it received and changed nothing between. Something that is not recorded did that: "
+BY_SERVER = ("behind a server, perhaps its answer to the replica's own change. Then server and replica make different things of one change: look at which changes each of them "
+             "adjusts it for. Client and server must adjust alike, and each change once.")
+UNRECORDED = {True: "; behind a server, at what its answer to the replica's own change does there.",
+              False: ": are deleted elements thrown away there, changes that were held back applied, or a copy of the list made anew?"}
+
+
+def of_contents(evidence: Evidence) -> list:
+    if evidence.undelivered:
+        return [undelivered(evidence)]
+    if misnamed(evidence):
+        return misnamed(evidence)
+    found = in_response(evidence)
+    found += too_much(evidence) or waited_in_part(evidence) if not found else []
+    more = unlike_receipts(evidence) if all(cause.name in ("lost neighbour", "applied in part") for cause in found) else []
+    more = [*(own_on_way(evidence) if not found else []), *more]
+    is_loss_first = is_loss_likelier(evidence, found or more)
+    found += more
+    found = [*lost(evidence), *found] if is_loss_first else [*found, *lost(evidence)]
+    found += brought(evidence, not found)
+    unknown = [name for name in evidence.surplus if name not in evidence.recording.inserts]
+    itself = vanished(evidence) if not found and not unknown else []
+    if itself:
+        return itself
+    found += healed(evidence)
+    found += replaced(evidence) if not found else []
+    if unknown:
+        found = [Cause("unknown", UNKNOWN.format(names=listed(unknown, MOST_TOLD))), *found]
+    these = "If none of these is the cause" if found[1:] else "If that is not the cause"
+    last = instead(evidence, any(cause.name == "overtaken" for cause in found))
+    return [*found, Cause("arrival", otherwise(these, last) if found else last)]
+
+
+def in_response(evidence: Evidence) -> list:
+    """The causes that an editor of this kind can have, of which the wrong response itself tells."""
+    own = own_gone(evidence)
+    found = [*own, *([] if own else own_back(evidence)), *applied_twice(evidence), *in_part(evidence), *wrong_delete(evidence, evidence.operations[0]), *second_delete(evidence),
+             *overtaken(evidence), *lost_neighbour(evidence)]
+    return [cause for cause in found if is_possible(cause.name, evidence.kind)]
+
+
+def instead(evidence: Evidence, is_overtaken: bool) -> str:
+    """Where to look where nothing else is told, or that is not it: of a change of the replica's own that nothing came before, at that itself."""
+    operation = evidence.operations[0]
+    before, receipts = evidence.before(operation)
+    if before and before[0].kind != "view" and not receipts and operation.element and not any(evidence.otherwise) and not evidence.repeated and set(evidence.surplus) <= set(evidence.recording.inserts):
+        return LOCAL.format(before=at(before[0]), what="insert" if operation.kind == "ins" else "delete")
+    may_be_transport = evidence.unnamed and not is_overtaken
+    return ARRIVAL.format(things="three things" if may_be_transport else "two things", transport=TRANSPORT if may_be_transport else "")
+
+
+def applied_twice(evidence: Evidence) -> list:
+    """Of elements that the response names more than once."""
+    replica = evidence.operations[0].replica
+    inserts = [insert for name in evidence.repeated for insert in evidence.recording.inserts.get(name, [])]
+    if not inserts:
+        return []
+    back = OWN_BACK if all(insert.replica == replica for insert in inserts) else ""
+    return [Cause("applied twice", APPLIED_TWICE.format(replica=replica, back=back, **changes_told(inserts)))]
+
+
+def in_part(evidence: Evidence) -> list:
+    """Of deletes that came together, of which the first had nothing to delete, and what came behind it was not applied; and none was lost."""
+    if evidence.in_part is None:
+        return []
+    change, other, gone = evidence.in_part
+    if (other, evidence.operations[0].replica) in astray(evidence):
+        return []
+    told = IN_PART.format(first=at(other), then=at(change), replica=evidence.operations[0].replica, element=other.element, gone=at(gone),
+                          surplus=listed(evidence.surplus, MOST_TOLD), is_="are" if evidence.surplus[1:] else "is")
+    return [Cause("applied in part", told)]
+
+
+def waited_in_part(evidence: Evidence) -> list:
+    """Of deletes that were not applied, though those that their author made directly before them were."""
+    left_out, added = evidence.otherwise
+    if added or not left_out or any(change.kind != "del" for change in left_out):
+        return []
+    operation = evidence.operations[0]
+    others = [other for other in evidence.made_before(left_out[0]) if other not in left_out and evidence.is_new(other)][::-1]
+    if not others or any(change not in evidence.made_before(left_out[-1]) for change in left_out[:-1]):
+        return []
+    told = WAITED_IN_PART.format(first=listed(list(map(at, others)), MOST_TOLD), was="were" if others[1:] else "was", replica=operation.replica,
+                                 then=listed(list(map(at, left_out)), MOST_TOLD), were="were" if left_out[1:] else "was")
+    return [Cause("applied in part", told)]
+
+
+def undelivered(evidence: Evidence) -> Cause:
+    """That changes had arrived is said by `delivered` alone: first those whose authors had none of the others."""
+    changes, replica = evidence.undelivered, evidence.operations[0].replica
+    lines = sorted({evidence.recording.arrival(change, replica).line for change in changes})
+    written = f"line{'' if len(lines) == 1 else 's'} {listed(list(map(str, lines)), MOST_TOLD)}"
+    first = [change for change in changes if not any(other is not change and change.has_seen(other) for other in changes)]
+    others = [change for change in changes if change not in first]
+    waiting = WAITING.format(others=changes_told(others)["changes"], s="" if others[1:] else "s", it="these" if first[1:] else "it") if others else ""
+    told = UNDELIVERED.format(lines=written, replica=replica, waiting=waiting, them="them" if first[1:] else "it", **changes_told(first))
+    gone = [delete for delete in evidence.deleted_beside(first[0], replica) if delete not in changes]
+    if not gone:
+        return Cause("not delivered", told)
+    neighbours = joined([f"{delete.element} was already deleted there by {at(delete)}" for delete in gone])
+    return Cause("not delivered, no place", told + NO_PLACE.format(insert=first[0].name, element=first[0].element, neighbours=neighbours))
+
+
+def is_loss_likelier(evidence: Evidence, causes: list) -> bool:
+    """Whether a change that may have been lost is told before the causes that lie in the response itself: unless one of these is as sure."""
+    names, operation = {cause.name for cause in causes}, evidence.operations[0]
+    return any(evidence.recording.arrival(change, replica).line <= operation.line or "overtaken" not in names and (
+        "not applied" not in names or replica == operation.replica) for change, replica in astray(evidence)[:1])
+
+
+def brought(evidence: Evidence, is_only: bool) -> list:
+    """Of changes that the response ought to show, and that came with a later one of their author without receipts of their own; but where one
+    is told as overtaken or lost. Those that have none anywhere may travel with the next one, and are told where this is the only cause."""
+    came, replica = {}, evidence.operations[0].replica
+    told = [change for change, _ in evidence.overtakings] + [change for change, other in evidence.unreceived[:1] if other == replica]
+    for change in evidence.unnamed if not told else []:
+        if not is_only and not evidence.recording.may_travel_alone(change, replica):
+            continue
+        came.setdefault(evidence.recording.arrival(change, replica), []).append(change)
+    return [Cause("brought", BROUGHT.format(replica=receipt.replica, brought=receipt.seen.name, line=receipt.line, them="them" if changes[1:] else "it",
+                                            they="they count" if changes[1:] else "it counts",
+                                            names=listed([change.name for change in changes], MOST_TOLD), **changes_told(changes)))
+            for receipt, changes in list(came.items())[:1]]
+
+
+def unlike_receipts(evidence: Evidence) -> list:
+    """With which changes more or less the response would be right; but not with both, which is no single fault."""
+    left_out, added = evidence.otherwise
+    if left_out and added:
+        return []
+    replica = evidence.operations[0].replica
+    other = OTHER_DELETE if len(left_out) == 1 and left_out[0].kind == "del" and was_deleted_before(evidence, left_out[0]) else ""
+    return tied_first([Cause(name, look.format(replica=replica, other=other, **changes_told(changes)))
+            for name, look, changes in (("not applied", NOT_APPLIED, left_out), ("no receipt", NO_RECEIPT, added)) if changes] + [
+                one for change in left_out[:1] if len(left_out) == 1 for one in moved_delete(evidence, change)])
+
+
+def was_deleted_before(evidence: Evidence, delete: Operation) -> bool:
+    """Whether some other element had been deleted at the replica when this delete arrived there: a delete of that one changes nothing."""
+    operation = evidence.operations[0]
+    others = [one for deletes in evidence.recording.deletes.values() for one in deletes if one.element != delete.element]
+    return any(operation.has_seen(one) for one in others)
+
+
+def moved_delete(evidence: Evidence, delete: Operation) -> list:
+    """Over which changes a delete has to be moved that arrived for wrong contents; and, of its element, over which insert that one was."""
+    receipt = evidence.recording.arrival(delete, evidence.operations[0].replica)
+    unknown = not_behind(evidence.recording, delete, receipt, met(evidence.recording, delete, receipt)) if delete.kind == "del" and receipt is not None else []
+    if not unknown:
+        return []
+    others = [other.element for insert in evidence.recording.inserts.get(delete.element, [])[:1]
+              for other in put_there_at_once(evidence.recording, insert, receipt)]
+    tied = [Cause("concurrent", TIED.format(one=delete.element, two=other, before=at(orders[0]), after=at(orders[1])))
+            for other in others[:MOST_TOLD] if all(orders := shown_in_orders(evidence, delete.element, other))]
+    others = [other for other in others if not tied and not is_agreed(evidence, delete.element, other, {delete.replica, receipt.replica})]
+    back = MOVED_BEFORE.format(replica=receipt.replica) if met_before(evidence.recording, delete, receipt) else ""
+    return [*tied[:1], Cause("positions", MOVED_DELETE.format(delete=delete.name, changes=named(unknown), back=back, tie=at_once(delete.element, others) if others else ""))]
+
+
+def tied_first(causes: list) -> list:
+    """First of all that two elements are shown in two orders already: what follows from it comes behind."""
+    return sorted(causes, key=lambda cause: cause.name != "concurrent")
+
+
+def wrong_delete(evidence: Evidence, operation: Operation) -> list:
+    """Of a response that lacks one element, which nothing deletes and which was there before, and has one that was deleted for it since its
+    replica's response before, which was right; but views, which may leave out any. What it lacks came before that delete, or where changes carry positions, its author had it."""
+    if evidence.repeated or len(evidence.missing) != 1 or len(evidence.surplus) != 1:
+        return []
+    (missing,), (surplus,) = evidence.missing, evidence.surplus
+    inserts, deletes = evidence.recording.inserts.get(surplus, []), evidence.recording.deletes.get(surplus, [])
+    before = [one for one in evidence.recording.streams[operation.replica][:operation.n - 1] if one.kind != "view"][-1:]
+    news = [delete for delete in deletes if operation.has_seen(delete) and not any(one.has_seen(delete) for one in before)]
+    is_new = before and any(evidence.is_new(insert) and evidence.line_at(insert, operation.replica) >= evidence.line_at(delete, operation.replica)
+                            and not (evidence.kind == POSITIONS and delete.has_seen(insert))
+                            for insert in evidence.recording.inserts[missing] for delete in news[:1])
+    earlier = [one for one in evidence.recording.deletes.get(missing, []) if one.line < operation.line]
+    is_deleted = earlier and not all(evidence.otherwise)  # by what no receipt brings, and that alone tells it
+    if is_deleted or not news or is_new or not any(map(operation.has_seen, inserts)):
+        return []
+    look = WRONG_LOCAL_DELETE if news[0] is operation else WRONG_POSITION if evidence.kind == POSITIONS else WRONG_DELETE
+    return tied_first([Cause("wrong delete", look.format(delete=at(news[0]), replica=operation.replica, missing=missing, surplus=surplus)), *moved_delete(evidence, news[0])])
+
+
+def misnamed(evidence: Evidence) -> list:
+    """Of a delete after which other elements are gone than it names, or than the deletes that its replica made directly before it, and nothing has
+    come since: it names what stood there nowhere, or several deletes name what is still shown."""
+    operation = evidence.operations[0]
+    before, receipts = evidence.before(operation)
+    if operation.kind != "del" or not before or before[0].kind == "view" or receipts or not evidence.missing or evidence.repeated:
+        return []
+    others = evidence.made_before(operation)[::-1]
+    deletes = [*others, operation]
+    named = [delete.element for delete in deletes]
+    wrong = [NOT_SHOWN.format(element=operation.element, before=at(before[0]), unknown="" if operation.element in evidence.recording.inserts else " and no line inserts it")
+             ] if operation.element not in before[0].response else []
+    if not wrong and not (others and evidence.surplus and set(evidence.surplus) <= set(named)):
+        return []
+    shown = [f"{listed(evidence.surplus, MOST_TOLD)} {'are' if evidence.surplus[1:] else 'is'} still shown"] if evidence.surplus and not wrong else []
+    gone = f"{listed(evidence.missing, MOST_TOLD)} {'are' if evidence.missing[1:] else 'is'} gone"
+    told = deletes if shown else [operation]
+    return [Cause("misnamed", MISNAMED.format(deletes=listed(list(map(at, told)), MOST_TOLD), s="" if told[1:] else "s", named=listed([delete.element for delete in told], MOST_TOLD),
+                                              wrong=(wrong or shown)[0], missing=gone, several=SEVERAL_IDS if others else ""))]
+
+
+def too_much(evidence: Evidence) -> list:
+    """Of a response that lacks what was there before, and has nothing that should not be there, where a delete came since, or is the response's own."""
+    operation = evidence.operations[0]
+    before = last_whole(evidence, operation)
+    if before is None or evidence.repeated or evidence.surplus or not evidence.missing or not set(evidence.missing) <= set(before.response):
+        return []
+    deletes = [change for change in evidence.came_between(before, operation) if change.kind == "del"]
+    deletes += [operation] if operation.kind == "del" else []
+    unseen = [delete for name in evidence.missing for delete in evidence.recording.deletes.get(name, []) if delete.line < operation.line]
+    if not deletes or unseen:
+        return []
+    applied = "" if deletes == [operation] else f", applied at replica {operation.replica},"
+    return [Cause("too much", TOO_MUCH.format(deletes=listed(list(map(at, deletes)), MOST_TOLD), applied=applied, missing=listed(evidence.missing, MOST_TOLD),
+                                              before=at(before), it="them" if evidence.missing[1:] else "it",
+                                              theirs=listed(list(dict.fromkeys(delete.element for delete in deletes)), MOST_TOLD)))]
+
+
+def own_back(evidence: Evidence) -> list:
+    """Of a response that shows again what its replica had deleted itself, and had not shown before, where changes have come since."""
+    operation = evidence.operations[0]
+    before = last_whole(evidence, operation)
+    came = evidence.came_between(before, operation) if before is not None else []
+    deletes = [delete for name in evidence.surplus for delete in evidence.recording.deletes.get(name, [])
+               if delete.replica == operation.replica and before is not None and before.has_seen(delete) and name not in before.response]
+    if not came or not deletes or len(deletes) != len(evidence.surplus) or evidence.repeated:
+        return []
+    is_one = not evidence.missing[1:]
+    arrival = evidence.recording.arrival(came[0], operation.replica) if not came[1:] else None
+    line = f" in line {arrival.line}" if arrival is not None else ""
+    new = [change for change in came if change.kind == "ins" and change.element not in evidence.surplus]
+    look = OWN_ADJUSTED if is_possible("positions", evidence.kind) else SPLIT.format(new=f"the insert of {new[0].element}" if len(came) == 1 else "what came") if new else SHOWN_AGAIN
+    lost = OWN_LOST.format(missing=listed(evidence.missing, MOST_TOLD), is_="is" if is_one else "are", it="it" if is_one else "one of them") if evidence.missing else ""
+    return [Cause("own back", OWN_BACK_AGAIN.format(came=named(came), back=listed(evidence.surplus, MOST_TOLD), replica=operation.replica,
+                                                    delete=listed(list(map(at, deletes)), MOST_TOLD), lost=lost, line=line) + look)]
+
+
+def own_on_way(evidence: Evidence) -> list:
+    """Where changes carry positions, of a response that lacks what another replica shows that has it, where deletes of the replica's own had not
+    been seen by the author of what came last."""
+    operation = evidence.operations[0]
+    before = last_whole(evidence, operation)
+    came = evidence.came_between(before, operation) if before is not None else []
+    if evidence.kind != POSITIONS or not came or not evidence.missing or evidence.surplus or evidence.repeated:
+        return []
+    arrival = evidence.recording.arrival(came[-1], operation.replica)
+    own = evidence.on_their_way(arrival)
+    deletes = [change for change in own if change.kind == "del"]
+    inserts = [evidence.recording.inserts[name][0] for name in evidence.missing]
+    if not deletes or any(insert.replica == operation.replica for insert in inserts):
+        return []
+    shown = next((one for stream in evidence.recording.streams for one in stream if one.replica not in (operation.replica, came[-1].replica) and one.has_seen(came[-1])
+                  and set(evidence.missing) <= set(one.response)), None)
+    elsewhere = SHOWN_ELSEWHERE.format(other=shown.replica, same=came[-1].name, missing=listed(evidence.missing, MOST_TOLD), operation=at(shown)) if shown else ""
+    both = next(((delete, other) for delete in deletes for other in came if other.kind == "del" and other.element == delete.element), None)
+    is_one = not evidence.missing[1:]
+    return [Cause("own on way", OWN_ON_WAY.format(
+        came=came[-1].name, line=f" in line {arrival.line}", replica=operation.replica, own=named(own), elsewhere=elsewhere, missing=listed(evidence.missing, MOST_TOLD),
+        it="it" if is_one else "them", twice=TWICE.format(element=both[0].element, other=at(both[1])) if both else "") + OWN_ADJUSTED)]
+
+
+def last_whole(evidence: Evidence, operation: Operation) -> Operation | None:
+    """The replica's operation before this one that answered the whole list, if there is one."""
+    return next((one for one in reversed(evidence.recording.streams[operation.replica][:operation.n - 1]) if one.kind != "view"), None)
+
+
+def own_gone(evidence: Evidence) -> list:
+    """Of a response that lacks inserts of its replica's own which it had shown, and has again what it had deleted itself, several changes in all, and
+    nothing else is wrong, though no delete has come since."""
+    operation = evidence.operations[0]
+    before = last_whole(evidence, operation)
+    if before is None or not evidence.missing or evidence.repeated or operation.element:
+        return []
+    inserts = [insert for name in evidence.missing for insert in evidence.recording.inserts[name]]
+    deletes = [delete for name in evidence.surplus for delete in evidence.recording.deletes.get(name, []) if operation.has_seen(delete)]
+    own = sorted([*inserts, *deletes], key=lambda change: change.line)
+    came = evidence.came_between(before, operation)
+    is_own = len(own) > 1 and all(change.replica == operation.replica for change in own) and len(deletes) == len(evidence.surplus) and set(evidence.missing) <= set(before.response)
+    if not is_own or any(change.kind == "del" for change in came) or set(evidence.surplus) & set(before.response):
+        return []
+    others = [one for stream in evidence.recording.streams for one in stream if one.replica != operation.replica]
+    is_unknown = not any(one.has_seen(change) for one in others for change in own)
+    return [Cause("own gone", OWN_GONE.format(replica=operation.replica, before=at(before), own=named(own), unknown=OWN_UNKNOWN if is_unknown else "",
+                                              came=CAME_SINCE.format(came=named(came)) if came else ""))]
+
+
+def healed(evidence: Evidence) -> list:
+    """That some replica reads another list than before, and has received nothing between, later than the wrong response."""
+    if evidence.healed is None:
+        return []
+    before, after = evidence.healed
+    return [Cause("healed", HEALED.format(other=after.replica, before=at(before), after=at(after)) + unrecorded(evidence))]
+
+
+def unrecorded(evidence: Evidence) -> str:
+    """What may change a list though nothing came."""
+    return BY_SERVER if is_possible("positions", evidence.kind) else BY_ITSELF
+
+
+def vanished(evidence: Evidence) -> list:
+    """Of a read whose replica answered right before, and has received nothing since, where no receipt is missing that tells it all."""
+    operation = evidence.operations[0]
+    before, receipts = evidence.before(operation)
+    if not before or before[0].kind == "view" or receipts or operation.kind != "read" or evidence.otherwise[1]:
+        return []
+    return [Cause("vanished", VANISHED.format(replica=operation.replica, before=at(before[0]), unrecorded=UNRECORDED[is_possible("positions", evidence.kind)]))]
+
+
+def replaced(evidence: Evidence) -> list:
+    """Of a response that lacks what its replica showed before, and has nothing that should not be there, where changes have come since, and no
+    delete among them."""
+    operation = evidence.operations[0]
+    before = last_whole(evidence, operation)
+    if before is None or evidence.surplus or not evidence.missing or not set(evidence.missing) <= set(before.response) or operation.kind != "read":
+        return []
+    came = evidence.came_between(before, operation)
+    if not came or any(change.kind == "del" for change in came):
+        return []
+    return [Cause("replaced", REPLACED.format(replica=operation.replica, missing=listed(evidence.missing, MOST_TOLD), before=at(before), came=named(came),
+                                              it="them" if evidence.missing[1:] else "it", came_first=came[-1].name))]
+
+
+def second_delete(evidence: Evidence) -> list:
+    found = evidence.second_deletes[:1]
+    replica = evidence.operations[0].replica
+    return [Cause("second delete", SECOND_DELETE[evidence.kind == POSITIONS].format(again=at(again), element=again.element, first=at(first),
+                                                        missing=listed(evidence.lost, MOST_TOLD), applied="" if again.replica == replica else f", applied at replica {replica},"))
+            for again, first in found] + [one for again, _ in found for one in moved_delete(evidence, again) if one.name == "positions"]
+
+
+def overtaken(evidence: Evidence) -> list:
+    """Of something that the response had or lacked wrongly: whether a later operation brought it before it came by itself, or it was lost."""
+    return [Cause("overtaken", (OVERTAKEN if found.own and found.own.seen is change else LOST_OR_OVERTAKEN).format(
+        name=change.name, replica=found.brought.replica)) for change, found in evidence.overtakings[:1]]
+
+
+def lost_neighbour(evidence: Evidence) -> list:
+    """Of an insert that the replica has shown nowhere since it came, and whose neighbour was deleted there, and not overtaken."""
+    overtaken_ones = {change.element for change, _ in evidence.overtakings}
+    lost = [arrival.insert.element for arrival, deletes in evidence.lost_neighbours if arrival.insert.element in evidence.missing
+            and not evidence.was_shown_since(arrival) and not overtaken_ones.intersection(delete.element for delete in deletes)]
+    return [Cause("lost neighbour", LOST_NEIGHBOUR.format(element=lost[0]))] if lost else []
