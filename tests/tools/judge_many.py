@@ -1311,6 +1311,13 @@ def overwriting(tally: Tally, program: str, folder: str) -> None:
     tally.check("overwriting: what stands beside the small trace", got.returncode == 2 and not got.stdout, got)
     tally.check("overwriting: all is as it was", Path(path).read_bytes() == text and sorted(os.listdir(folder)) == ["a.trace", "a.trace.lines", "link", "same"],
                 os.listdir(folder))
+    log = Path(folder, "pads.log")
+    shutil.copy(ROOT / "examples/log/pads.log", log)
+    for trace in log, Path(folder, ".", "pads.log"):
+        got = subprocess.run([sys.executable, ROOT / "examples/log/convert.py", log, trace], capture_output=True, text=True, env={**os.environ, "PYTHONPATH": str(ROOT / "recorders")})
+        tally.check(f"overwriting: convert.py {trace}", (got.returncode, got.stdout, got.stderr) == (1, "", "convert.py: the trace would be written over the log\n")
+                    and log.read_bytes() == (ROOT / "examples/log/pads.log").read_bytes(), got)
+    log.unlink()
     for name, other in ("0", "trace 1\nreplicas 1\n0 ins b 0 : b\n"), ("1", "trace 2\nreplicas 1\n0 view :\n"):  # as in `--junit *.trace`
         first = Path(folder, f"{name}.trace")
         first.write_text(other)
