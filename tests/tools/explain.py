@@ -249,7 +249,7 @@ WORDS = [
      "Where to look|"
      "Look at positions beside deleted elements: any two of 2.1, 0.3 and 1.1 fit together, all three don't; perhaps an insert lost its place "
      "because its neighbour was deleted meanwhile. Look first at where replica 0 placed b in line 10, beside x, which had been deleted there.|"
-     "For the verdict on the whole trace (told at the end): look at where a replica places an incoming insert beside a deleted element: [a] was put before [x] (1.1, line 6), and [b] behind it (2.1, line 7), so [x] settles their order, also where it is deleted; yet they were shown in two different orders. No rule for concurrent inserts at one place may decide here.|For the verdict on the whole trace (told at the end): if the list is sorted by position identifiers, look at those of a and b: are the two equal, does one differ between replicas, are numbers compared as text, or was one not made between its neighbours'?|For the verdict on the whole trace (told at the end): if the editor sends positions, the position of b was perhaps not adjusted for the delete of x by 0.2 (line 8), which replica 1 "
+     "For the verdict on the whole trace (told at the end): look at where a replica places an incoming insert beside a deleted element: [a] was put before [x] (1.1, line 6), and [b] behind it (2.1, line 7), so [x] settles their order, also where it is deleted; yet 0.3 (line 14) shows them the other way round. No rule for concurrent inserts at one place may decide here.|For the verdict on the whole trace (told at the end): if the list is sorted by position identifiers, look at those of a and b: are the two equal, does one differ between replicas, are numbers compared as text, or was one not made between its neighbours'?|For the verdict on the whole trace (told at the end): if the editor sends positions, the position of b was perhaps not adjusted for the delete of x by 0.2 (line 8), which replica 1 "
      "knew and the author of b did not; or the position of the delete was not adjusted for an insert that the author of the delete had not seen.|"
      "" + stop(10, "replica 0 applies 2.1", 9, 5, 4, together=9) + "||What the whole trace shows: a circle, which no order allows|"
      "[a] before [b]: line 14, 1.2: replica 1 read the list, answered [a] [b]|"
@@ -1795,6 +1795,19 @@ FIRST_TOLD = {
         "its way then, the insert of a by 2.1 (line 3). What comes must be adjusted for that, and that for what comes."),
     "a delete that hits what came with it": ("positions", 2, "0 ins a 0 : a|0 ins b 1 : a b|0 del b : a|1 recv 0 3|1 read : b",
         "It looks as if 0.3 (line 5), applied at replica 1, deleted a instead of b"),
+    "an insert into a deleted range": ("positions", 3, "2 ins a 0 : a|2 ins b 1 : a b|1 recv 2 2|1 read : a b|2 ins c 2 : a b c|2 ins e 1 : a e b c|2 del b : a e c|2 del c : a e|1 ins d 2 : a b d|"
+        "2 recv 1 2|2 read : a d e|1 recv 2 4|1 read : a e b d c",
+        "[d] belongs between b and c, and both had been deleted, one directly after the other, by 2.5 (line 9) and 2.6 (line 10), when it came to replica 2 in line 12: it may be an insert into the middle "
+        "of a deleted range. Look at how such a one is adjusted: it goes to where the range began, and no further to the left; and at how the delete of a range is adjusted for it."),
+    "a third replica that has applied it": ("neighbours", 3, "0 ins a 0 : a|1 recv 0 1|1 read : a|2 recv 0 1|2 read :",
+        "It looks as if 0.1 (line 3) was not applied at replica 2: lost, or held back, or `received` is called before the change is applied. Replica 1 has applied 0.1, as 1.1 (line 5) shows: so look at "
+        "replica 2.\n"),
+    "a third replica that has not applied it either": ("neighbours", 3, "0 ins a 0 : a|1 recv 0 1|1 read :|2 recv 0 1|2 read :",
+        "It looks as if 0.1 (line 3) was not applied at replica 1: lost, or held back, or `received` is called before the change is applied. Replica 2 has not applied 0.1 either, as 2.1 (line 7) shows: so "
+        "look first at what is sent.\n"),
+    "a delete that may have come before its element": ("tree", 2, "0 ins a 0 : a|0 del a :|1 recv 0 1|1 recv 0 2|1 read : a",
+        "It looks as if 0.2 (line 4) was not applied at replica 1: lost, or held back, or `received` is called before the change is applied. If it came before the insert of a did, look at what keeps a "
+        "delete whose element is not there yet: a second one must not take the place of the first, and each must be tried again when its element comes.\n"),
     "identifiers where an author is alone": ("identifiers", 2, f"{BESIDE_DELETED}|0 recv 1 2|0 read : c d", "Print the position identifiers of"),
 }
 
@@ -1809,6 +1822,12 @@ def first_told(tally: Tally, program: str, folder: str) -> None:
         tally.check(f"first told: {name}", first.startswith(words), f"{path.read_text()}{told}")
         if "one replica alone" in name:
             tally.check(f"first told: {name}: the debugger", f"\n  stop before line {'6' if 'with one' not in name else '5'} of the trace, where replica 2 applies 1.1" in told, told)
+    both = "0 ins a 0 : a|0 ins b 1 : a b|1 recv 0 2|1 read : a b|0 del a : b|1 del a : b|1 recv 0 3|1 read : b|0 recv 1 2|0 ins c 1 : b c|1 recv 0 4|1 read : b"
+    for kind in "positions", "neighbours":
+        path.write_text(text_of(2, both))
+        told = explain(program, ["--editor", kind, str(path)]).out.decode()
+        tally.check(f"first told: {kind}: a delete that became nothing", ("\n  Before that, in line 11, replica 0 received 1.2, which deletes a, though it had deleted that itself, by 0.3 (line 7)." in told)
+                    == (kind == "positions") and "It looks as if 0.4 (line 12) was not applied at replica 1" in told, told)
     path.write_text(text_of(2, "0 ins x 0 : x|0 ins y 1 : x y|1 recv 0 2|1 read : x y|1 del x : y|0 ins z 1 : x z y|1 recv 0 3|1 read : y"))
     for kind in "identifiers", "neighbours":
         first = explain(program, ["--editor", kind, str(path)]).out.decode().partition("Where to look\n  ")[2]

@@ -1,13 +1,16 @@
 """What causes of a verdict have in common: how one is told, and what is told of changes that arrive."""
 from __future__ import annotations
 
+from itertools import product
 from typing import NamedTuple
 
 from .evidence import Evidence
+from .kinds import POSITIONS
 from .telling import at, listed
 
 ALONE = "weak alone"  # the name of the last cause: that weak holds
 MOST_TOLD = 3  # deletes, or elements, that are told one by one
+MOST_EMPTIED = 3  # deletes that became nothing before the fault: where more did, that alone is not the cause
 MOST_MET = 6  # changes for which a position was perhaps not adjusted
 LOST = ("Look first at whether {changes} {were} lost on {their} way to replica {replica}, or overtaken: no receipt there names {them}, though {others}. "
         "In an editor that sends positions, later changes then land in the wrong place.")
@@ -17,6 +20,8 @@ PUT_AT_ONCE = {True: " At the place of {element} also {others} was inserted, and
                False: " At the place of {element} also {others} were inserted; their authors did not have {element}, nor its author theirs. Look also at which of "
                       "them comes first."}
 OWN_ADJUSTED = "how the replica's own changes that are still on their way are adjusted for what arrives (each of two over the other as that was before), and at how it takes them back and applies them anew, if it does."
+EMPTIED = ("Before that, in line {line}, replica {replica} received {change}, which deletes {element}, though it had deleted that itself, by {other}. Each becomes nothing for the other, and must still be counted as "
+           "received, by both sides alike (numbers of messages, what waits for its acknowledgement): else what comes later is adjusted once too often, or too seldom.")
 BY_ITSELF = "perhaps deleted elements are thrown away there, changes that were held back are applied, or a copy of the list that is shown is made anew."
 
 
@@ -82,3 +87,17 @@ def named(changes: list) -> str:
     """Changes with what they changed."""
     what = {"ins": "insert", "del": "delete"}
     return listed([f"the {what[change.kind]} of {change.element} by {at(change)}" for change in changes], MOST_MET)
+
+
+def emptied(evidence: Evidence) -> list:
+    """Where changes carry positions, the last delete before the fault that came where its element had been deleted already, but where several did."""
+    found = []
+    for deletes in evidence.recording.deletes.values() if evidence.kind == POSITIONS else []:
+        for change, other in product(deletes, deletes):
+            arrival = evidence.recording.arrival(change, other.replica) if other.replica != change.replica and not other.has_seen(change) else None
+            if arrival is not None and other.line < arrival.line < evidence.last_line and not evidence.recording.is_delivered(arrival.line):
+                found.append((arrival.line, change, other))
+    if not 0 < len(found) <= MOST_EMPTIED:
+        return []
+    line, change, other = max(found, key=lambda one: one[0])
+    return [Cause("emptied", EMPTIED.format(line=line, replica=other.replica, change=change.name, element=change.element, other=at(other)))]

@@ -1,7 +1,7 @@
 """Where to look in the editor where a response holds other elements than it should, the likeliest cause first."""
 from __future__ import annotations
 
-from .cause import BY_ITSELF, MOST_TOLD, OWN_ADJUSTED, Cause, astray, at_once, changes_told, is_agreed, is_deleted, lost, named, otherwise, shown_in_orders
+from .cause import BY_ITSELF, MOST_TOLD, OWN_ADJUSTED, Cause, astray, at_once, changes_told, emptied, is_agreed, is_deleted, lost, named, otherwise, shown_in_orders
 from .evidence import Evidence
 from .kinds import POSITIONS, is_possible
 from .positions import met, met_before, neighbours, not_behind, put_there_at_once
@@ -22,9 +22,13 @@ WAITING = " ({others}, made later, perhaps wait{s} for {it})"
 NO_PLACE = (" Perhaps {insert} finds no place there for {element}: its neighbour {neighbours}. An editor that throws deleted elements away too "
             "early loses such an insert or holds it back for ever.")
 NOT_APPLIED = ("It looks as if {changes} {were} not applied at replica {replica}: lost, or held back, or `received` is called before the "
-               "change is applied.{other}")
+               "change is applied.{elsewhere}{other}")
+ELSEWHERE = {True: " Replica {other} has applied {change}, as {operation} shows: so look at replica {replica}.",
+             False: " Replica {other} has not applied {change} either, as {operation} shows: so look first at what is sent{server}."}
 OTHER_DELETE = (" Or it deleted another element, one that was already deleted there: look at how a replica that applies a delete finds the element (is the "
                 "whole id compared?).")
+CAME_BEFORE = (" If it came before the insert of {elements} did, look at what keeps a delete whose element is not there yet: a second one must not take the place of the first, and each must be tried again "
+               "when its element comes.")
 WAITED_IN_PART = ("{first} {was} done at replica {replica}, but not {then}, which {were} made directly behind. If one change of your editor deletes all of these, it looks as if it was "
                   "applied in part: look at what a replica does where one of several elements is gone already, or has not come yet; and, if the change waited, at whether it is asked again "
                   "what is lacking when one thing comes.")
@@ -108,6 +112,7 @@ def of_contents(evidence: Evidence) -> list:
     itself = vanished(evidence) if not found and not unknown else []
     if itself:
         return itself
+    found += emptied(evidence)
     found += healed(evidence)
     found += replaced(evidence) if not found else []
     if unknown:
@@ -215,10 +220,33 @@ def unlike_receipts(evidence: Evidence) -> list:
     if left_out and added:
         return []
     replica = evidence.operations[0].replica
-    other = OTHER_DELETE if len(left_out) == 1 and left_out[0].kind == "del" and was_deleted_before(evidence, left_out[0]) else ""
-    return tied_first([Cause(name, look.format(replica=replica, other=other, **changes_told(changes)))
+    return tied_first([Cause(name, look.format(replica=replica, other=other_than(evidence, changes), elsewhere=elsewhere(evidence, changes[0]), **changes_told(changes)))
             for name, look, changes in (("not applied", NOT_APPLIED, left_out), ("no receipt", NO_RECEIPT, added)) if changes] + [
                 one for change in left_out[:1] if len(left_out) == 1 for one in moved_delete(evidence, change)])
+
+
+def other_than(evidence: Evidence, changes: list) -> str:
+    """What else may have become of changes that were not applied: deletes whose elements came no sooner than they, or one that hit what was deleted already.
+    In an editor that sends positions neither can be."""
+    if evidence.kind == POSITIONS or any(change.kind != "del" for change in changes):
+        return ""
+    if all(any(map(evidence.is_new, evidence.recording.inserts.get(change.element, []))) for change in changes):
+        return CAME_BEFORE.format(elements=listed([change.element for change in changes], MOST_TOLD))
+    return OTHER_DELETE if len(changes) == 1 and was_deleted_before(evidence, changes[0]) else ""
+
+
+def elsewhere(evidence: Evidence, change: Operation) -> str:
+    """What a third replica shows of a change: whether it was applied there too, first where it was not."""
+    replica, told = evidence.operations[0].replica, {}
+    for stream in evidence.recording.streams:
+        for one in stream:
+            is_third = one.replica not in (change.replica, replica) and one.kind != "view" and one.has_seen(change)
+            is_open = is_third and (change.kind == "del" or not any(map(one.has_seen, evidence.recording.deletes.get(change.element, []))))
+            if is_open:
+                told.setdefault((change.element in one.response) == (change.kind == "ins"), one)
+    is_applied = False not in told
+    return ELSEWHERE[is_applied].format(other=told[is_applied].replica, change=change.name, operation=at(told[is_applied]), replica=replica,
+                                        server="" if evidence.kind not in ("", POSITIONS) else ", and what the server makes of it, if it adjusts positions") if told else ""
 
 
 def was_deleted_before(evidence: Evidence, delete: Operation) -> bool:

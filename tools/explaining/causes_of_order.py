@@ -3,10 +3,10 @@ from __future__ import annotations
 
 import re
 
-from .cause import ALONE, BY_ITSELF, MOST_MET, MOST_TOLD, OWN_ADJUSTED, Cause, at_once, is_agreed, is_deleted, lost, named, otherwise
+from .cause import ALONE, BY_ITSELF, MOST_MET, MOST_TOLD, OWN_ADJUSTED, Cause, at_once, emptied, is_agreed, is_deleted, lost, named, otherwise
 from .evidence import Evidence
 from .kinds import BY_ELEMENTS, IDENTIFIERS, NEIGHBOURS, POSITIONS, TREE, is_possible
-from .positions import are_put_at_once, elements_before, met_inserts, neighbours, put_there_at_once
+from .positions import are_put_at_once, elements_before, list_of, met_inserts, neighbours, put_there_at_once
 from .recordings import Operation, place_asked
 from .telling import at, counted, joined, listed
 
@@ -59,8 +59,10 @@ SEVERAL_APART = ("Look at how a replica orders elements when it has only some of
                  "inserts is not the same everywhere.")
 WEAK_ALONE_HOLDS = ("An editor whose server orders all changes, as Jupiter's does, promises only the weak list specification, which holds here. If yours is "
                     "such a one, nothing is wrong here: ask for weak alone, in the tools by --weak.")
+IN_RANGE = ("[{new}] belongs between {left} and {right}, and both had been deleted, one directly after the other, by {first} and {then}, when it came to replica {replica} in line {line}: it may be an insert into the "
+            "middle of a deleted range. Look at how such a one is adjusted: it goes to where the range began, and no further to the left; and at how the delete of a range is adjusted for it.")
 SETTLED = ("Look at where a replica places an incoming insert beside a deleted element: [{first}] was put before [{middle}] ({op_first}), and [{then}] behind it ({op_then}), so "
-              "[{middle}] settles their order, also where it is deleted; yet they were shown in two different orders. {then_what}")
+              "[{middle}] settles their order, also where it is deleted; yet {wrong} shows them the other way round. {then_what}")
 SETTLED_BY = {
     "": "No rule for concurrent inserts at one place may decide here.",
     NEIGHBOURS: "No rule for concurrent inserts at one place may decide here: the search for the place must still find [{middle}], or what stood for it.",
@@ -310,7 +312,7 @@ def of_refusal(evidence: Evidence, weak: bool) -> list:
         if weak and moved:
             told = (EITHER if are_put_at_once(first, then) else MOVED_OR_TIED).format(first=first.element, then=then.element, **moved)
             settled = settled_by_another(evidence, first, then) if evidence.kind else []
-            return [*turned_by_itself(evidence), *lost(evidence), *reordered(evidence), *odd_one(evidence), *came_between(evidence), *settled, Cause("concurrent", told), *beside_deleted(evidence)]
+            return [*turned_by_itself(evidence), *lost(evidence), *reordered(evidence), *odd_one(evidence), *in_range(evidence), *came_between(evidence), *settled, Cause("concurrent", told), *emptied(evidence), *beside_deleted(evidence)]
         settled = settled_by_another(evidence, first, then)
         behind, is_gone = behind_unknown(evidence, first, then)
         concurrent = settled or [*behind, Cause("concurrent", CONCURRENT.format(first=first.element, then=then.element, place=place_of_both(first, then), rule=RULES[evidence.kind],
@@ -318,7 +320,7 @@ def of_refusal(evidence: Evidence, weak: bool) -> list:
         is_told = evidence.between is not None or bool(concurrent[1:]) and not is_gone
         causes = [concurrent, beside_deleted(evidence, is_told)]
         is_deleted_first = evidence.lost_neighbours and not are_put_at_once(first, then) and not is_told and not evidence.is_fine_beside_deleted
-        return [*turned_by_itself(evidence), *lost(evidence), *reordered(evidence), *odd_one(evidence), *came_between(evidence), *put_inside(evidence), *own_place(evidence), *sum(causes[::-1] if is_deleted_first else causes, []), sorted_alike(evidence), *moved_insert(moved)]
+        return [*turned_by_itself(evidence), *lost(evidence), *reordered(evidence), *odd_one(evidence), *in_range(evidence), *came_between(evidence), *put_inside(evidence), *own_place(evidence), *sum(causes[::-1] if is_deleted_first else causes, []), sorted_alike(evidence), *moved_insert(moved)]
     later, old = (first, then) if first.has_seen(then) else (then, first)
     moved = moved_over(evidence)
     told = seen(evidence, later, old, not (weak and moved))
@@ -332,7 +334,7 @@ def of_refusal(evidence: Evidence, weak: bool) -> list:
     alone = shown_alone(evidence)
     turned = reordered(evidence) if not alone else []  # that is told already
     if turned and evidence.kind == POSITIONS:
-        return [*turned_by_itself(evidence), *lost(evidence), *turned, *moved_insert(moved)]
+        return [*turned_by_itself(evidence), *lost(evidence), *turned, *moved_insert(moved), *emptied(evidence)]
     if turned and first.replica == then.replica == evidence.reordered[3].replica:
         last = Cause("rebased", REBASED.format(replica=first.replica, one=first.element, two=then.element))
     else:
@@ -435,18 +437,39 @@ def turned_then(evidence: Evidence, before: Operation) -> str:
 
 def settled_by_another(evidence: Evidence, first: Operation, then: Operation) -> list:
     """Of two inserts of which the one was put before an element, and the other behind it, which so settles their order. The nearest one counts."""
-    found = []
-    for one, other in (first, then), (then, first):
+    for one in first, then:
         unlike = shown_unlike(evidence, one)
         if unlike is not None:
             return [Cause("seen", seen(evidence, one, unlike, True))]
-        before, behind = one.response[one.response.index(one.element) + 1:], other.response[:other.response.index(other.element)]
-        found += [(before.index(name) + len(behind) - behind.index(name), name, one, other) for name in set(before).intersection(behind)
-                  if is_deleted(evidence, name)]
-    return [Cause("settled", SETTLED.format(first=one.element, then=other.element, middle=middle, op_first=f"{one.name}, line {one.line}",
-                                            op_then=f"{other.name}, line {other.line}",
-                                            then_what=SETTLED_BY[evidence.kind].format(first=one.element, middle=middle, then=other.element)))
-            for _, middle, one, other in sorted(found, key=lambda each: each[:2])[:1]]
+    if evidence.settled is None:
+        return []
+    one, other, middle, wrong = evidence.settled
+    return [Cause("settled", SETTLED.format(first=one.element, then=other.element, middle=middle, op_first=f"{one.name}, line {one.line}", op_then=f"{other.name}, line {other.line}",
+                                            wrong=at(wrong), then_what=SETTLED_BY[evidence.kind].format(first=one.element, middle=middle, then=other.element)))]
+
+
+def in_range(evidence: Evidence) -> list:
+    """Where changes carry positions, of an insert that came where what stood on both sides of its place had been deleted, by deletes that were made one
+    directly after the other."""
+    for arrival, gone in evidence.lost_neighbours if evidence.kind == POSITIONS else []:
+        for delete in gone:
+            other = beside_in_range(evidence, arrival.insert, delete)
+            if other is not None:
+                first, then = sorted((delete, other), key=lambda change: change.line)
+                return [Cause("in a range", IN_RANGE.format(new=arrival.insert.element, left=delete.element, right=other.element, first=at(first), then=at(then),
+                                                            replica=arrival.receipt.replica, line=arrival.receipt.line))]
+    return []
+
+
+def beside_in_range(evidence: Evidence, insert: Operation, delete: Operation) -> Operation | None:
+    """The delete, made directly before another or behind it, of what stood for its author on the other side of an insert's place than the other's element."""
+    made = [delete, *evidence.made_before(delete)]
+    behind = [one for one in evidence.recording.streams[delete.replica][delete.n:] if one.kind == "del" and delete in evidence.made_before(one)]
+    shown = list_of(evidence.recording, made[-1])
+    step = 1 if neighbours(insert)[0] == delete.element else -1
+    place = shown.index(delete.element) + step if delete.element in shown else -1
+    beside = shown[place] if 0 <= place < len(shown) else None
+    return next((one for one in [*made[1:], *behind] if one.element == beside and not insert.has_seen(one)), None)
 
 
 def printed(evidence: Evidence) -> str:

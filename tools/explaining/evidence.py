@@ -153,13 +153,34 @@ class Evidence:
         return insert, other, receipt, own
 
     @cached_property
+    def settled(self) -> tuple | None:
+        """Of a refusal of two, of which neither author had the other's, where the one was put before an element that a response has no longer, and the other
+        behind it, which so settles their order: both inserts in this order, the nearest such element, and the response that shows them otherwise."""
+        if self.report.get("k") != 2:
+            return None
+        first, then = (self.recording.inserts[name][0] for name in self.elements)
+        if first.has_seen(then) or then.has_seen(first):
+            return None
+        found = []
+        for one, other in (first, then), (then, first):
+            before, behind = one.response[one.response.index(one.element) + 1:], other.response[:other.response.index(other.element)]
+            gone = [name for name in set(before).intersection(behind) if any(operation.has_seen(delete) for operation in self.operations
+                                                                             for delete in self.recording.deletes.get(name, []))]
+            found += [(before.index(name) + len(behind) - behind.index(name), name, one, other) for name in gone]
+        if not found:
+            return None
+        _, middle, one, other = min(found, key=lambda each: each[:2])
+        return one, other, middle, next(operation for operation in self.operations if not follows([one.element, other.element], operation.response))
+
+    @cached_property
     def odd_one(self) -> tuple | None:
         """Of a refusal of two, of which neither author had the other's, whether all replicas that show both, three at least, show them first in one
-        order but one: the others' numbers, the first response of the one that does not, and the receipt with which the later of the two came there."""
+        order but one, and nothing else settles which is right: the others' numbers, the first response of the one that does not, and the receipt with which
+        the later of the two came there."""
         if self.report.get("k") != 2:
             return None
         inserts = [self.recording.inserts[name][0] for name in self.elements]
-        if inserts[0].has_seen(inserts[1]) or inserts[1].has_seen(inserts[0]):
+        if inserts[0].has_seen(inserts[1]) or inserts[1].has_seen(inserts[0]) or self.settled:
             return None
         first = [next((one for one in stream if set(self.elements) <= set(one.response)), None) for stream in self.recording.streams]
         shown = {one.replica: one for one in first if one is not None}

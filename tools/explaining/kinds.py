@@ -16,7 +16,7 @@ KINDS = {  # with what is said of each
 }
 BY_ELEMENTS = (NEIGHBOURS, TREE)
 OF_KINDS = {  # which kinds can have a cause; all can have one that does not stand here
-    "identifiers": (IDENTIFIERS,), "positions": (POSITIONS,), "weak alone": (POSITIONS,), "rebased": (POSITIONS,), "own on way": (POSITIONS,), "odd one": (POSITIONS,), "hidden order": BY_ELEMENTS, "between": (NEIGHBOURS,), "inside": (TREE,), "own place": BY_ELEMENTS,
+    "identifiers": (IDENTIFIERS,), "positions": (POSITIONS,), "weak alone": (POSITIONS,), "rebased": (POSITIONS,), "own on way": (POSITIONS,), "odd one": (POSITIONS,), "in a range": (POSITIONS,), "emptied": (POSITIONS,), "hidden order": BY_ELEMENTS, "between": (NEIGHBOURS,), "inside": (TREE,), "own place": BY_ELEMENTS,
     "behind unknown": (NEIGHBOURS,), "numbers": BY_ELEMENTS, "seen in a cycle": BY_ELEMENTS, "lost neighbour": BY_ELEMENTS, "beside gone": BY_ELEMENTS, "beside deleted": BY_ELEMENTS,
     "several, deleted": (*BY_ELEMENTS, POSITIONS), "several, apart": (*BY_ELEMENTS, POSITIONS),
 }
