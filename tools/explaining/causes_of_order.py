@@ -303,7 +303,7 @@ def of_refusal(evidence: Evidence, weak: bool) -> list:
     """Concurrent inserts first; then inserts beside deleted elements, then two elements of which one's author had seen the other."""
     if evidence.report["k"] > 2:
         several = [of_several(evidence), *seen_in_cycle(evidence)]
-        return [*lost(evidence), *came_between(evidence), *(several[::-1] if evidence.is_fine_beside_deleted else several), sorted_alike(evidence),
+        return [*lost(evidence), *in_range(evidence), *came_between(evidence), *(several[::-1] if evidence.is_fine_beside_deleted else several), sorted_alike(evidence),
                 Cause(ALONE, WEAK_ALONE_HOLDS)]
     first, then = (evidence.recording.inserts[name][0] for name in evidence.elements)
     weak = weak or evidence.kind == POSITIONS
