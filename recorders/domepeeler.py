@@ -788,6 +788,7 @@ def _tell_unread() -> None:
     """Says on standard error of which recordings of this process nobody knows whether they are right; and which ones, judged after each call, are
     wrong, since whoever caught the error may have told nobody."""
     left = [(callers, told) for process, callers, told in _UNREAD.copy().values() if process == os.getpid()]
+    _UNREAD.clear()  # a worker that was spawned comes here twice
     unread, wrong = [callers for callers, told in left if not told], [(callers, told) for callers, told in left if told]
     with contextlib.suppress(Exception):  # where nobody hears it, nothing is to be done
         if unread:
