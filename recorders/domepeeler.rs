@@ -66,6 +66,7 @@ const WARNINGS: &str = "\nWhat this verdict may hide\n"; // a title in the expla
 const LAST: &str = "\nThe list specifications\n"; // that of the last section there
 const ONE_LOG: &str = "one replica's log is no recording: merge the logs first";
 const FAILED_TRACES: &str = "failed_traces"; // the folder of traces that were not accepted in tests
+const OF_DOCTESTS: &str = "rust_out"; // the name of each program of an example in documentation
 const LETTERS_OF_HASH: usize = 16; // which cargo puts behind the name of a program of tests
 const RUNS: &str = ".runs"; // in it: for each run of tests a folder, with a mark for each trace that it has saved
 const MARK: &str = "mark"; // the ending of its name; in it stands the number of the process that saved the trace
@@ -1777,13 +1778,14 @@ fn forget(folder: &Path) {
     let _ = fs::remove_dir(folder);
 }
 
-/// Which run of tests this process is of, by the process that began it: cargo, which begins one for each file of tests, or itself.
+/// Which run of tests this process is of, by the process that began it: cargo, which begins one for each file of tests, rustdoc, which begins one
+/// for each example, or itself.
 fn this_run() -> String {
     static RUN: Mutex<Option<String>> = Mutex::new(None);
     let mut run = RUN.lock().unwrap_or_else(|poisoned| poisoned.into_inner());
     run.get_or_insert_with(|| {
         #[cfg(unix)]
-        if std::env::var_os("CARGO").is_some() && has_hash(&program()) {
+        if std::env::var_os("CARGO").is_some() && (has_hash(&program()) || program() == OF_DOCTESTS) {
             return name_of_run(std::os::unix::process::parent_id());
         }
         name_of_run(std::process::id())

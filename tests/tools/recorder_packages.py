@@ -2000,15 +2000,20 @@ mod tests {
 
 
 def check_same_names(tally: Tally, place: Place) -> None:
-    """Of tests with the same name in a library and its program, and of those whose names have the same letters but for signs, each keeps its trace."""
+    """Of tests with the same name in a library and its program, of those whose names have the same letters but for signs, and of examples in documentation,
+    each keeps its trace."""
     shutil.copytree(place.folder / "rust", place.folder / "same", ignore=shutil.ignore_patterns("target", "tests", "src", "failed*"))
     place.make("same/src/editor.rs", SAME_NAMES)
     for name, fails, more in ("lib", "true", ""), ("main", "false", "fn main() {}\n"):
         place.make(f"same/src/{name}.rs", f"#[cfg(test)]\nconst FAILS: bool = {fails};\nmod editor;\n{more}")
     folder = place.folder / "same/failed_traces"
+    example_of = "//! ```\n//! let mut recording = domepeeler::Recording::new(1).unwrap();\n//! let list: &[&str] = if std::env::var_os(\"LOST\").is_some() {{ &[] }} else {{ &[\"{0}\"] }};\n" \
+                 "//! recording.insert(0, \"{0}\", 0, list).unwrap();\n//! recording.assert_accepted();\n//! ```\n"
+    place.make("same/src/lib.rs", f"{example_of.format('d')}mod other;\n{(place.folder / 'same/src/lib.rs').read_text()}")
+    place.make("same/src/other.rs", example_of.format("e"))  # in the same lines
     done = place.run(["cargo", "test", "--offline", "--quiet", "--no-fail-fast"], "same", LOST="1", CARGO_TARGET_DIR=str(place.folder / "rust/target"))
     saved = {path.stem: path.read_text().split()[6] for path in folder.glob("*.trace")}
-    tally.check("cargo: tests with the same name in a library and its program, and of other tests", set(saved.values()) == {"a", "b", "c"} and
+    tally.check("cargo: tests with the same name in a library and its program, and of other tests", set(saved.values()) == {"a", "b", "c", "d", "e"} and
                 saved.get("own-editor-tests-two_users") == "a" and {"own-editor-tests-t-st", "own-editor-tests-t-st-2"} < set(saved), (saved, done.stdout))
     done = place.run(["cargo", "test", "--offline", "--quiet", "--no-fail-fast"], "same", CARGO_TARGET_DIR=str(place.folder / "rust/target"))
     tally.check("cargo: where they pass their traces are removed", done.returncode == 0 and not list(folder.glob("*.trace")), done.stdout)

@@ -3043,7 +3043,8 @@ def check_own_panics(tally: Tally, program: str, folder: Path) -> None:
     traces.write_text("no folder")
     done = ended("by_itself", FAILS="1")
     tally.check("Rust: a trace that can't be saved", done.returncode == 101 and "0 passed; 1 failed;" in done.stdout and
-                done.stderr.startswith("The recording is accepted\nThe trace can't be saved: failed_traces/own-by_itself.trace: "), done)
+                done.stderr.startswith("The recording is accepted\nThe trace can't be saved: failed_traces/own-by_itself.trace: ") and
+                ". It is:\ntrace 1\nreplicas 1\n0 read :\n0 ins a 0 : a\n" in done.stderr, done)
     with open("/dev/full", "w") as full:
         done = subprocess.run(["./own", "--nocapture", "by_itself"], cwd=place, env={**surroundings, "FAILS": "1"}, stdout=subprocess.PIPE,
                               stderr=full, text=True)
