@@ -1805,6 +1805,12 @@ FIRST_TOLD = {
     "a third replica that has not applied it either": ("neighbours", 3, "0 ins a 0 : a|1 recv 0 1|1 read :|2 recv 0 1|2 read :",
         "It looks as if 0.1 (line 3) was not applied at replica 1: lost, or held back, or `received` is called before the change is applied. Replica 2 has not applied 0.1 either, as 2.1 (line 7) shows: so "
         "look first at what is sent.\n"),
+    "a change that is shown later, with nothing between": ("neighbours", 2, "0 ins a 0 : a|1 recv 0 1|1 read :|1 ins b 0 : b a",
+        "It looks as if 0.1 (line 3) was not applied at replica 1: lost, or held back, or `received` is called before the change is applied. It is shown from 1.2 (line 6) on, though nothing else came "
+        "between: so it had come, and what was shown is out of date. Is each list that is kept for showing, such as a cache, made anew after every change, others' too?\n"),
+    "a change that is shown later, behind another": ("neighbours", 2, "0 ins a 0 : a|1 recv 0 1|1 read :|0 ins b 1 : a b|1 recv 0 2|1 read : a b",
+        "It looks as if 0.1 (line 3) was not applied at replica 1: lost, or held back, or `received` is called before the change is applied. It is shown from 1.2 (line 8) on, behind what came in line 7: "
+        "perhaps it was held back until then, or its receipt was written too early.\n"),
     "a delete that may have come before its element": ("tree", 2, "0 ins a 0 : a|0 del a :|1 recv 0 1|1 recv 0 2|1 read : a",
         "It looks as if 0.2 (line 4) was not applied at replica 1: lost, or held back, or `received` is called before the change is applied. If it came before the insert of a did, look at what keeps a "
         "delete whose element is not there yet: a second one must not take the place of the first, and each must be tried again when its element comes.\n"),

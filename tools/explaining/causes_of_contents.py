@@ -22,7 +22,10 @@ WAITING = " ({others}, made later, perhaps wait{s} for {it})"
 NO_PLACE = (" Perhaps {insert} finds no place there for {element}: its neighbour {neighbours}. An editor that throws deleted elements away too "
             "early loses such an insert or holds it back for ever.")
 NOT_APPLIED = ("It looks as if {changes} {were} not applied at replica {replica}: lost, or held back, or `received` is called before the "
-               "change is applied.{elsewhere}{other}")
+               "change is applied.{later}{elsewhere}{other}")
+LATER = {True: " It is shown from {operation} on, behind what came in line {line}: perhaps it was held back until then, or its receipt was written too early.",
+         False: " It is shown from {operation} on, though nothing else came between: so it had come, and what was shown is out of date. Is each list that is kept for showing, such as a cache, made anew "
+                "after every change, others' too?"}
 ELSEWHERE = {True: " Replica {other} has applied {change}, as {operation} shows: so look at replica {replica}.",
              False: " Replica {other} has not applied {change} either, as {operation} shows: so look first at what is sent{server}."}
 OTHER_DELETE = (" Or it deleted another element, one that was already deleted there: look at how a replica that applies a delete finds the element (is the "
@@ -220,7 +223,8 @@ def unlike_receipts(evidence: Evidence) -> list:
     if left_out and added:
         return []
     replica = evidence.operations[0].replica
-    return tied_first([Cause(name, look.format(replica=replica, other=other_than(evidence, changes), elsewhere=elsewhere(evidence, changes[0]), **changes_told(changes)))
+    return tied_first([Cause(name, look.format(replica=replica, other=other_than(evidence, changes), elsewhere=elsewhere(evidence, changes[0]),
+                                         later=later(evidence, changes), **changes_told(changes)))
             for name, look, changes in (("not applied", NOT_APPLIED, left_out), ("no receipt", NO_RECEIPT, added)) if changes] + [
                 one for change in left_out[:1] if len(left_out) == 1 for one in moved_delete(evidence, change)])
 
@@ -233,6 +237,20 @@ def other_than(evidence: Evidence, changes: list) -> str:
     if all(any(map(evidence.is_new, evidence.recording.inserts.get(change.element, []))) for change in changes):
         return CAME_BEFORE.format(elements=listed([change.element for change in changes], MOST_TOLD))
     return OTHER_DELETE if len(changes) == 1 and was_deleted_before(evidence, changes[0]) else ""
+
+
+def later(evidence: Evidence, changes: list) -> str:
+    """That the replica shows a single change later as applied, and whether something else came to it until then."""
+    operation = evidence.operations[0]
+    if changes[1:] or evidence.healed is not None and evidence.healed[1].replica == operation.replica:
+        return ""
+    change = changes[0]
+    shown = next((one for one in evidence.recording.streams[operation.replica][operation.n:] if one.kind != "view" and one.element != change.element and one.has_seen(change)
+                  and (change.element in one.response) == (change.kind == "ins")), None)
+    if shown is None:
+        return ""
+    came = [receipt for receipt in evidence.recording.receipts[operation.replica] if operation.line < receipt.line < shown.line]
+    return LATER[bool(came)].format(operation=at(shown), line=came[-1].line if came else 0)
 
 
 def elsewhere(evidence: Evidence, change: Operation) -> str:
