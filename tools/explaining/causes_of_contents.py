@@ -223,7 +223,7 @@ def unlike_receipts(evidence: Evidence) -> list:
     if left_out and added:
         return []
     replica = evidence.operations[0].replica
-    return tied_first([Cause(name, look.format(replica=replica, other=other_than(evidence, changes), elsewhere=elsewhere(evidence, changes[0]),
+    return tied_first([Cause(name, look.format(replica=replica, other=other_than(evidence, changes), elsewhere=elsewhere(evidence, changes[0]) if evidence.in_part is None else "",
                                          later=later(evidence, changes), **changes_told(changes)))
             for name, look, changes in (("not applied", NOT_APPLIED, left_out), ("no receipt", NO_RECEIPT, added)) if changes] + [
                 one for change in left_out[:1] if len(left_out) == 1 for one in moved_delete(evidence, change)])
