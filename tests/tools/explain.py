@@ -1828,6 +1828,17 @@ def first_told(tally: Tally, program: str, folder: str) -> None:
         tally.check(f"first told: {name}", first.startswith(words), f"{path.read_text()}{told}")
         if "one replica alone" in name:
             tally.check(f"first told: {name}: the debugger", f"\n  stop before line {'6' if 'with one' not in name else '5'} of the trace, where replica 2 applies 1.1" in told, told)
+    among = "[b] came to replica 0 with others, and no list was shown between (line 5 to line 6): perhaps out of a waiting room. Look at whether a change that is let out of there does all that others do, such as advancing the clock."
+    came = "1 ins a 0 : a|1 ins b 1 : a b|0 recv 1 1|0 recv 1 2|0 read : a b"
+    for name, entries in ("a wrong position", f"{came}|0 ins c 1 : a b c"), ("an order that its author knew", f"{came}|0 ins c 1 : a c b|1 recv 0 2|1 read : a b c"), (
+            "read between", f"{came.replace('|0 recv 1 2', '|0 read : a|0 recv 1 2')}|0 ins c 1 : a b c"):
+        path.write_text(text_of(2, entries))
+        for kind in "neighbours", "identifiers":
+            told = explain(program, ["--editor", kind, str(path)]).out.decode()
+            tally.check(f"first told: {kind}: what came among others, {name}", (among in told) == (kind == "neighbours" and name != "read between"), told)
+    path.write_text(text_of(2, "0 ins a 0 : a|0 del a :|1 recv 0 1|1 recv 0 2|1 read : a|1 del a :|1 read :"))
+    told = explain(program, [str(path)]).out.decode()
+    tally.check("first told: nothing of what another delete did", "0.2 (line 4) was not applied at replica 1" in told and "It is shown from" not in told, told)
     both = "0 ins a 0 : a|0 ins b 1 : a b|1 recv 0 2|1 read : a b|0 del a : b|1 del a : b|1 recv 0 3|1 read : b|0 recv 1 2|0 ins c 1 : b c|1 recv 0 4|1 read : b"
     for kind in "positions", "neighbours":
         path.write_text(text_of(2, both))

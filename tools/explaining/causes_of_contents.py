@@ -247,7 +247,8 @@ def later(evidence: Evidence, changes: list) -> str:
     change = changes[0]
     shown = next((one for one in evidence.recording.streams[operation.replica][operation.n:] if one.kind != "view" and one.element != change.element and one.has_seen(change)
                   and (change.element in one.response) == (change.kind == "ins")), None)
-    if shown is None:
+    others = [one for one in evidence.recording.deletes.get(change.element, []) if one is not change]  # one of these may have done it
+    if shown is None or any(map(shown.has_seen, others)):
         return ""
     came = [receipt for receipt in evidence.recording.receipts[operation.replica] if operation.line < receipt.line < shown.line]
     return LATER[bool(came)].format(operation=at(shown), line=came[-1].line if came else 0)

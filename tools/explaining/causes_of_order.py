@@ -112,12 +112,14 @@ EITHER = ("Look at the order of concurrent inserts: {first} and {then} were inse
           "or the rule that orders them is not the same everywhere. Client and server must adjust alike, and each change once.")
 REBASED = ("Replica {replica} inserted both {one} and {two} itself. If the editor takes back its own changes when others' arrive, and applies them anew (rebasing), look at "
            "where that puts them.")
+LET_OUT = (" [{old}] came to replica {replica} with others, and no list was shown between (line {first} to line {last}): perhaps out of a waiting room. Look at whether a change that is let out of there does all "
+           "that others do, such as advancing the clock.")
 SEEN = ("When replica {author} inserted [{new}] ({later}, line {line}), it had [{old}] already{since}, and put [{new}] {side} it. That order must hold everywhere, but {operation} "
-        "shows [{new}] {other_side} [{old}]. {look}.{numbers}")
+        "shows [{new}] {other_side} [{old}]. {look}.{numbers}{let_out}")
 OF_AUTHOR_OR_PLACE = "Look at what that insert says, as replica {author} made it, and at where replica {replica} placed it{arrived}"
 BETWEEN_THE_TWO = "Look at what replica {author} did between the two"
 SEEN_IN_CYCLE = ("When replica {author} inserted [{new}] ({later}, line {line}), it had [{old}] already{since}, and put [{new}] {side} it: look at whether that insert says so too, and by "
-                 "its number.{numbers}")
+                 "its number.{numbers}{let_out}")
 SHOWN_ALONE = ("Replica {replica}, which inserted [{new}] ({insert}, line {line}), shows it {side} [{old}] until its next receipt (line {receipt}), and no other replica does; from {own} "
                "on it shows it {other_side} [{old}], as the others do. ")
 ANOTHER_PLACE = ("So the insert's change says another place than the one where the replica itself shows it: look at how a local insert is put into the list, and at what its change "
@@ -158,7 +160,8 @@ def of_position(evidence: Evidence) -> list:
     gone = beside_gone(evidence, passed[0])
     if has_delete and is_younger_by_name(name, passed):
         return [*gone, *kept, *stale, Cause("mapping", mapped), *sorted_by]
-    numbers = Cause("numbers", (NUMBERS_TREE if evidence.kind == TREE else NUMBERS).format(element=name, passed=listed(passed, MOST_TOLD), replica=operation.replica, theirs=theirs, causes=CLOCK[are_own]))
+    among = "".join(dict.fromkeys(let_out(evidence, operation, insert) for one in passed[:1] for insert in evidence.recording.inserts.get(one, [])[:1]))
+    numbers = Cause("numbers", (NUMBERS_TREE if evidence.kind == TREE else NUMBERS).format(element=name, passed=listed(passed, MOST_TOLD), replica=operation.replica, theirs=theirs, causes=CLOCK[are_own]) + among)
     told = [cause for cause in [*gone, *kept, numbers, *sorted_by, *stale] if is_possible(cause.name, evidence.kind)]
     if not told:
         return [Cause("mapping", mapped)]
@@ -303,7 +306,8 @@ def of_refusal(evidence: Evidence, weak: bool) -> list:
     """Concurrent inserts first; then inserts beside deleted elements, then two elements of which one's author had seen the other."""
     if evidence.report["k"] > 2:
         several = [of_several(evidence), *seen_in_cycle(evidence)]
-        return [*lost(evidence), *in_range(evidence), *came_between(evidence), *(several[::-1] if evidence.is_fine_beside_deleted else several), sorted_alike(evidence),
+        is_let_out = any(cause.told.endswith(LET_OUT.rpartition("}")[2]) for cause in several)
+        return [*lost(evidence), *in_range(evidence), *came_between(evidence), *(several[::-1] if evidence.is_fine_beside_deleted or is_let_out else several), sorted_alike(evidence),
                 Cause(ALONE, WEAK_ALONE_HOLDS)]
     first, then = (evidence.recording.inserts[name][0] for name in evidence.elements)
     weak = weak or evidence.kind == POSITIONS
@@ -343,7 +347,7 @@ def of_refusal(evidence: Evidence, weak: bool) -> list:
     first_of_all = [*turned_by_itself(evidence), *lost(evidence)]
     if alone and evidence.kind == IDENTIFIERS:
         return [*first_of_all, *sorted_by, *alone]
-    return [*first_of_all, *alone, *turned, *hidden_order(evidence, later, old), *([last, *gone] if evidence.is_fine_beside_deleted else [*gone, last]), *sorted_by, *moved_insert(moved)]
+    return [*first_of_all, *alone, *turned, *hidden_order(evidence, later, old), *([last, *gone] if evidence.is_fine_beside_deleted or let_out(evidence, later, old) else [*gone, last]), *sorted_by, *moved_insert(moved)]
 
 
 def hidden_order(evidence: Evidence, later: Operation, old: Operation) -> list:
@@ -378,7 +382,8 @@ def seen(evidence: Evidence, later: Operation, old: Operation, is_numbered: bool
     look = OF_AUTHOR_OR_PLACE if unlike.replica != later.replica else BETWEEN_THE_TWO
     told = put_beside(evidence, later, old)
     return SEEN.format(**told, operation=at(unlike), other_side="behind" if told["side"] == "before" else "before",
-                       look=look.format(author=later.replica, replica=unlike.replica, arrived=arrived), numbers=of_inserts(evidence, unlike) if is_numbered else "")
+                       look=look.format(author=later.replica, replica=unlike.replica, arrived=arrived), numbers=of_inserts(evidence, unlike) if is_numbered else "",
+                       let_out=let_out(evidence, later, old) if is_numbered else "")
 
 
 def put_beside(evidence: Evidence, later: Operation, old: Operation) -> dict:
@@ -388,6 +393,12 @@ def put_beside(evidence: Evidence, later: Operation, old: Operation) -> dict:
     since = f" (since line {arrival.line})" if arrival is not None and not evidence.recording.is_delivered(arrival.line) else ""
     return {"author": later.replica, "later": later.name, "line": later.line, "new": later.element, "old": old.element, "since": since,
             "side": "before" if names[0] == later.element else "behind"}
+
+
+def let_out(evidence: Evidence, later: Operation, old: Operation) -> str:
+    """That an element which the author of a later insert had already came there among others, where the editor has clocks."""
+    lines = evidence.came_among(old, later.replica) if evidence.kind in ("", *BY_ELEMENTS) else None
+    return LET_OUT.format(old=old.element, replica=later.replica, first=lines[0], last=lines[1]) if lines else ""
 
 
 def of_inserts(evidence: Evidence, operation: Operation) -> str:
@@ -403,7 +414,7 @@ def seen_in_cycle(evidence: Evidence) -> list:
     for step, operation in evidence.steps if evidence.kind in BY_ELEMENTS else []:
         pair = [evidence.recording.inserts[step[name]][0] for name in ("from", "to")]
         found += [(insert is not last, insert.line, insert, other, operation) for insert, other in (pair, pair[::-1]) if insert.has_seen(other)]
-    return [Cause("seen in a cycle", SEEN_IN_CYCLE.format(**put_beside(evidence, insert, other), numbers=of_inserts(evidence, operation)))
+    return [Cause("seen in a cycle", SEEN_IN_CYCLE.format(**put_beside(evidence, insert, other), numbers=of_inserts(evidence, operation), let_out=let_out(evidence, insert, other)))
             for *_, insert, other, operation in sorted(found, key=lambda one: one[:2])[:1]]
 
 

@@ -194,6 +194,14 @@ class Evidence:
             return None
         return [replica for replica in orders if replica != odd[0]], shown[odd[0]], last
 
+    def came_among(self, insert: Operation, replica: int) -> tuple | None:
+        """The first and the last line of receipts of a replica with no list between, up to that with which an insert came there, where it did not come first."""
+        arrival = self.recording.arrival(insert, replica) if insert.replica != replica else None
+        if arrival is None or self.recording.is_delivered(arrival.line):
+            return None
+        lines = [receipt.line for receipt in self.recording.receipts[replica] if receipt.before == arrival.before and receipt.line <= arrival.line]
+        return (lines[0], lines[-1]) if lines[1:] else None
+
     def on_their_way(self, receipt: Receipt) -> list:
         """The changes that a replica had made before a receipt, and that the author of what came had not seen."""
         return [change for change in self.recording.changes() if change.replica == receipt.replica and change.line < receipt.line and not receipt.seen.has_seen(change)]
