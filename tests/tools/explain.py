@@ -1828,6 +1828,19 @@ def first_told(tally: Tally, program: str, folder: str) -> None:
         tally.check(f"first told: {name}", first.startswith(words), f"{path.read_text()}{told}")
         if "one replica alone" in name:
             tally.check(f"first told: {name}: the debugger", f"\n  stop before line {'6' if 'with one' not in name else '5'} of the trace, where replica 2 applies 1.1" in told, told)
+    path.write_text(text_of(3, "0 ins a 0 : a|0 ins b 1 : a b|1 recv 0 2|2 recv 0 2|1 read : a b|1 del b : a|1 ins c 1 : a c|0 ins d 2 : a b d|1 recv 0 3|1 read : a c d|0 recv 1 3|0 read : a d c|"
+                               "2 recv 0 3|2 recv 1 3|2 read : a d c"))
+    for kind in "neighbours", "identifiers":
+        told = explain(program, ["--editor", kind, str(path)]).out.decode()
+        tally.check(f"first told: {kind}: an own place that its author alone shows", ("them: a local insert must find its place by the same search as an incoming one. Replicas 0 and 2, to which it came, show it "
+                    "elsewhere than replica 1 alone, which inserted it: so begin with this." in told) == (kind == "neighbours"), told)
+    path.write_text(text_of(3, "0 ins a 0 : a|0 ins b 1 : a b|1 recv 0 2|2 recv 0 2|1 read : a b|2 read : a b|1 del a : b|0 del b : a|1 recv 0 3|1 read :|2 recv 0 3|2 read : a|0 recv 1 2|0 read : a|"
+                               "2 recv 1 2|2 read : a"))
+    for kind in "positions", "neighbours":
+        told = explain(program, ["--editor", kind, str(path)]).out.decode()
+        waited = "Between 1.2 and its first arrival elsewhere (line 15) replica 1 received 0.3 (line 11): so stop before line 11 too, and look at how the replica's own changes that are still on their way"
+        tally.check(f"first told: {kind}: a change that its author had adjusted", (waited in told) == (kind == "positions") and "Replica 2 has not applied 1.2 either, as 2.3 (line 18) shows: so look first "
+                    "at what is sent" in told, told)
     among = "[b] came to replica 0 with others, and no list was shown between (line 5 to line 6): perhaps out of a waiting room. Look at whether a change that is let out of there does all that others do, such as advancing the clock."
     came = "1 ins a 0 : a|1 ins b 1 : a b|0 recv 1 1|0 recv 1 2|0 read : a b"
     for name, entries in ("a wrong position", f"{came}|0 ins c 1 : a b c"), ("an order that its author knew", f"{came}|0 ins c 1 : a c b|1 recv 0 2|1 read : a b c"), (

@@ -23,6 +23,7 @@ NO_PLACE = (" Perhaps {insert} finds no place there for {element}: its neighbour
             "early loses such an insert or holds it back for ever.")
 NOT_APPLIED = ("It looks as if {changes} {were} not applied at replica {replica}: lost, or held back, or `received` is called before the "
                "change is applied.{later}{elsewhere}{other}")
+KEPT_BACK = (" Between {change} and its first arrival elsewhere (line {first}) replica {author} received {came}: so stop before line {line} too, and look at ")
 LATER = {True: " It is shown from {operation} on, behind what came in line {line}: perhaps it was held back until then, or its receipt was written too early.",
          False: " It is shown from {operation} on, though nothing else came between: so it had come, and what was shown is out of date. Is each list that is kept for showing, such as a cache, made anew "
                 "after every change, others' too?"}
@@ -254,6 +255,15 @@ def later(evidence: Evidence, changes: list) -> str:
     return LATER[bool(came)].format(operation=at(shown), line=came[-1].line if came else 0)
 
 
+def kept_back(evidence: Evidence, change: Operation) -> str:
+    """Where changes carry positions, what the author of a change received between making it and its first arrival elsewhere, for which it had to adjust it."""
+    arrivals = [evidence.recording.arrival(change, replica) for replica in range(evidence.recording.replicas) if replica != change.replica]
+    first = min((arrival.line for arrival in filter(None, arrivals)), default=0)
+    came = [receipt for receipt in evidence.recording.receipts[change.replica] if change.line < receipt.line < first and not receipt.seen.has_seen(change)]
+    return KEPT_BACK.format(change=change.name, first=first, author=change.replica, line=came[0].line,
+                            came=listed([f"{receipt.seen.name} (line {receipt.line})" for receipt in came], MOST_TOLD)) + OWN_ADJUSTED if came and evidence.kind == POSITIONS else ""
+
+
 def elsewhere(evidence: Evidence, change: Operation) -> str:
     """What a third replica shows of a change: whether it was applied there too, first where it was not."""
     replica, told = evidence.operations[0].replica, {}
@@ -265,7 +275,8 @@ def elsewhere(evidence: Evidence, change: Operation) -> str:
                 told.setdefault((change.element in one.response) == (change.kind == "ins"), one)
     is_applied = False not in told
     return ELSEWHERE[is_applied].format(other=told[is_applied].replica, change=change.name, operation=at(told[is_applied]), replica=replica,
-                                        server="" if evidence.kind not in ("", POSITIONS) else ", and what the server makes of it, if it adjusts positions") if told else ""
+                                        server="" if evidence.kind not in ("", POSITIONS) else ", and what the server makes of it, if it adjusts positions") + (
+                                            kept_back(evidence, change) if not is_applied else "") if told else ""
 
 
 def was_deleted_before(evidence: Evidence, delete: Operation) -> bool:

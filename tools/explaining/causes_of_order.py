@@ -46,7 +46,8 @@ CLOCK = {True: "the clock does not advance with each insert; ", False: "the cloc
 BESIDE_DELETED = ("If inserts find their place by a neighbour, look at inserts beside deleted elements: {which}. If replicas throw "
                   "deleted elements away, nothing says then where the insert belongs; if they keep them, the search for its place must treat them like "
                   "elements that are shown.")
-OWN_PLACE = ("When replica {replica} inserted [{element}] (line {line}), {gone} had been deleted at its place. If deleted elements are kept, look at where its own list has the new one among "
+ALONE_WITH_OWN = " Replicas {others}, to which it came, show it elsewhere than replica {replica} alone, which inserted it: so begin with this."
+OWN_PLACE = ("When replica {replica} inserted [{element}] (line {line}), {gone} had been deleted at its place. If deleted elements are kept, be it for a while, look at where its own list has the new one among "
              "them: a local insert must find its place by the same search as an incoming one.")
 ARRIVED_BESIDE = "{element} came to replica {replica} in line {line}, where its {neighbours} {gone} had been deleted"
 HIDDEN_BESIDE = "{element} was put beside {gone}, which {were} deleted before {operation}"
@@ -233,7 +234,9 @@ def own_place(evidence: Evidence) -> list:
     if evidence.own_place is None or evidence.kind not in BY_ELEMENTS:
         return []
     insert, gone = evidence.own_place
-    return [Cause("own place", OWN_PLACE.format(replica=insert.replica, element=insert.element, line=insert.line, gone=listed(gone, MOST_TOLD)))]
+    odd = evidence.odd_one
+    alone = ALONE_WITH_OWN.format(others=joined(list(map(str, odd[0]))), replica=insert.replica, element=insert.element) if odd and odd[1].replica == insert.replica else ""
+    return [Cause("own place", OWN_PLACE.format(replica=insert.replica, element=insert.element, line=insert.line, gone=listed(gone, MOST_TOLD)) + alone)]
 
 
 def put_inside(evidence: Evidence) -> list:
