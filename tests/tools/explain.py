@@ -1841,6 +1841,10 @@ def first_told(tally: Tally, program: str, folder: str) -> None:
         waited = "Between 1.2 and its first arrival elsewhere (line 15) replica 1 received 0.3 (line 11): so stop before line 11 too, and look at how the replica's own changes that are still on their way"
         tally.check(f"first told: {kind}: a change that its author had adjusted", (waited in told) == (kind == "positions") and "Replica 2 has not applied 1.2 either, as 2.3 (line 18) shows: so look first "
                     "at what is sent" in told, told)
+    path.write_text(text_of(3, "0 ins a 0 : a|0 ins b 1 : a b|1 recv 0 2|2 recv 0 2|1 read : a b|2 read : a b|0 del a : b|1 recv 0 3|1 read : a|2 recv 0 3|2 read : a"))
+    for kind, server in ("positions", ", and what the server makes of it, if it adjusts positions"), ("neighbours", ""):
+        told = explain(program, ["--editor", kind, str(path)]).out.decode()
+        tally.check(f"first told: {kind}: a delete that is wrong at two replicas", f"Replica 2 lacks b too, in 2.2 (line 13): so look first at what is sent{server}, and not at replica 1." in told, told)
     among = "[b] came to replica 0 with others, and no list was shown between (line 5 to line 6): perhaps out of a waiting room. Look at whether a change that is let out of there does all that others do, such as advancing the clock."
     came = "1 ins a 0 : a|1 ins b 1 : a b|0 recv 1 1|0 recv 1 2|0 read : a b"
     for name, entries in ("a wrong position", f"{came}|0 ins c 1 : a b c"), ("an order that its author knew", f"{came}|0 ins c 1 : a c b|1 recv 0 2|1 read : a b c"), (

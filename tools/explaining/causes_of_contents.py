@@ -24,6 +24,7 @@ NO_PLACE = (" Perhaps {insert} finds no place there for {element}: its neighbour
 NOT_APPLIED = ("It looks as if {changes} {were} not applied at replica {replica}: lost, or held back, or `received` is called before the "
                "change is applied.{later}{elsewhere}{other}")
 KEPT_BACK = (" Between {change} and its first arrival elsewhere (line {first}) replica {author} received {came}: so stop before line {line} too, and look at ")
+LACKED_ELSEWHERE = " Replica {other} lacks {missing} too, in {operation}: so look first at what is sent{server}, and not at replica {replica}."
 LATER = {True: " It is shown from {operation} on, behind what came in line {line}: perhaps it was held back until then, or its receipt was written too early.",
          False: " It is shown from {operation} on, though nothing else came between: so it had come, and what was shown is out of date. Is each list that is kept for showing, such as a cache, made anew "
                 "after every change, others' too?"}
@@ -323,7 +324,20 @@ def wrong_delete(evidence: Evidence, operation: Operation) -> list:
     if is_deleted or not news or is_new or not any(map(operation.has_seen, inserts)):
         return []
     look = WRONG_LOCAL_DELETE if news[0] is operation else WRONG_POSITION if evidence.kind == POSITIONS else WRONG_DELETE
-    return tied_first([Cause("wrong delete", look.format(delete=at(news[0]), replica=operation.replica, missing=missing, surplus=surplus)), *moved_delete(evidence, news[0])])
+    told = look.format(delete=at(news[0]), replica=operation.replica, missing=missing, surplus=surplus) + lacked_elsewhere(evidence, news[0], [missing])
+    return tied_first([Cause("wrong delete", told), *moved_delete(evidence, news[0])])
+
+
+def lacked_elsewhere(evidence: Evidence, delete: Operation, missing: list) -> str:
+    """That a third replica which has a delete lacks the same elements, though it has their inserts and no delete of them: then the delete came wrong to both."""
+    replica, recording = evidence.operations[0].replica, evidence.recording
+    for stream in recording.streams:
+        for one in stream:
+            is_third = one.replica not in (delete.replica, replica) and one.kind != "view" and one.has_seen(delete) and not set(missing) & set(one.response)
+            if is_third and all(any(map(one.has_seen, recording.inserts.get(name, []))) and not any(map(one.has_seen, recording.deletes.get(name, []))) for name in missing):
+                return LACKED_ELSEWHERE.format(other=one.replica, missing=listed(missing, MOST_TOLD), operation=at(one), replica=replica,
+                                               server="" if evidence.kind not in ("", POSITIONS) else ", and what the server makes of it, if it adjusts positions")
+    return ""
 
 
 def misnamed(evidence: Evidence) -> list:
@@ -472,7 +486,7 @@ def second_delete(evidence: Evidence) -> list:
     found = evidence.second_deletes[:1]
     replica = evidence.operations[0].replica
     return [Cause("second delete", SECOND_DELETE[evidence.kind == POSITIONS].format(again=at(again), element=again.element, first=at(first),
-                                                        missing=listed(evidence.lost, MOST_TOLD), applied="" if again.replica == replica else f", applied at replica {replica},"))
+                                                        missing=listed(evidence.lost, MOST_TOLD), applied="" if again.replica == replica else f", applied at replica {replica},") + lacked_elsewhere(evidence, again, evidence.lost))
             for again, first in found] + [one for again, _ in found for one in moved_delete(evidence, again) if one.name == "positions"]
 
 
