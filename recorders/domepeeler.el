@@ -108,16 +108,30 @@ Nobody has judged them, saved them or taken their text since something was
 recorded or refused.")
 
 (defun domepeeler--mark-unread (recording)
-  "From now on nobody knows whether RECORDING is right."
-  (puthash (domepeeler-recording-mark recording) t domepeeler--unread))
+  "From now on nobody knows whether RECORDING is right.
+Or whoever was told that it is wrong, since each call is judged, may have
+told nobody."
+  (puthash (domepeeler-recording-mark recording)
+           (or (car (split-string (or (domepeeler-recording-stopped recording) "") "\n")) "")
+           domepeeler--unread))
+
+(defun domepeeler--mark-read (recording)
+  (remhash (domepeeler-recording-mark recording) domepeeler--unread))
 
 (defun domepeeler--tell-unread ()
-  "Say as Emacs ends of how many recordings nobody knows that."
-  (let ((count (hash-table-count domepeeler--unread)))
+  "Say as Emacs ends of how many recordings nobody knows that; and which are wrong."
+  (let* ((told (hash-table-values domepeeler--unread))
+         (wrong (remove "" told))
+         (count (- (length told) (length wrong))))
     (when (> count 0)
       (message "domepeeler: nothing has judged %s since something was recorded or refused"
                (if (= count 1) "a recording, saved it or taken its text"
-                 (format "%d recordings, saved them or taken their texts" count))))))
+                 (format "%d recordings, saved them or taken their texts" count))))
+    (when wrong
+      (message "domepeeler: %s: %s"
+               (if (cdr wrong) (format "%d recordings that were judged after each call are wrong, one of them" (length wrong))
+                 "a recording that was judged after each call is wrong")
+               (car wrong)))))
 
 (when noninteractive
   (add-hook 'kill-emacs-hook #'domepeeler--tell-unread))
@@ -200,6 +214,7 @@ that again, and record nothing.  A program that can't be run signals as in
 (defun domepeeler--answered (recording)
   "Signal what is wrong with RECORDING, where each call is to be judged."
   (when (domepeeler-recording-stop recording)
+    (domepeeler--mark-unread recording) ; until it is judged
     (let* ((report (domepeeler--report recording nil))
            (weak (eq (domepeeler-recording-stop recording) 'weak))
            (verdict (alist-get 'verdict report)))
@@ -208,7 +223,10 @@ that again, and record nothing.  A program that can't be run signals as in
               (condition-case why
                   (string-trim-right (domepeeler-explain recording nil weak))
                 (error (format "The recording is not accepted: %s. There is no explanation: %s" verdict (error-message-string why)))))
-        (domepeeler--go-on recording)))))
+        (domepeeler--mark-unread recording)
+        (domepeeler--go-on recording))
+      (when (domepeeler-recording-open recording)
+        (domepeeler--mark-unread recording))))) ; what is to come still
 
 (defmacro domepeeler--noting (recording body)
   "Do BODY; where it is refused, remember that of RECORDING."
@@ -422,7 +440,10 @@ It is the vector clock of an update that REPLICA makes now."
 
 (domepeeler--defun domepeeler-text (recording)
   "The trace of RECORDING; of one replica's log the text that merge.py takes."
-  (remhash (domepeeler-recording-mark recording) domepeeler--unread)
+  (domepeeler--mark-read recording)
+  (domepeeler--text recording))
+
+(defun domepeeler--text (recording)
   (concat (string-join (reverse (domepeeler-recording-lines recording)) "\n") "\n"))
 
 (domepeeler--defun domepeeler-save (recording file)
@@ -437,14 +458,15 @@ A pipe or a device has no such file beside it."
   (let ((coding-system-for-write 'utf-8-unix)
         (beside (concat file ".lines")))
     (if (and (file-exists-p file) (not (file-regular-p file)))
-        (domepeeler--named file (write-region (domepeeler-text recording) nil file nil 'silent))
-      (cl-loop with text = (domepeeler-text recording)
+        (domepeeler--named file (write-region (domepeeler--text recording) nil file nil 'silent))
+      (cl-loop with text = (domepeeler--text recording)
                with told = (domepeeler--beside recording)
                repeat domepeeler--tries
                do (domepeeler--put-both text file told beside)
                thereis (domepeeler--may-hold beside told)
                do (sleep-for (/ (random 10) 1000.0)) ; by chance, so that they don't keep step
                finally (domepeeler--named file (signal 'file-error '("Saving" "another process saves there too")))))
+    (domepeeler--mark-read recording)
     nil))
 
 (defun domepeeler--put-both (text file told beside)
@@ -651,7 +673,7 @@ else LACKING, and NAMED says what another program is named by."
         (errors (make-temp-file "domepeeler")))
     (unwind-protect
         (with-temp-buffer
-          (insert (domepeeler-text recording))
+          (insert (domepeeler--text recording))
           (let ((status (condition-case why
                             (apply #'call-process-region (point-min) (point-max) program t (list t errors) nil words)
                           (file-error (error "%s cannot be run (%s): set %s" (domepeeler--escaped program) (error-message-string why) named)))))
@@ -661,6 +683,7 @@ else LACKING, and NAMED says what another program is named by."
                                  (with-temp-buffer (insert-file-contents errors) (string-trim (buffer-string)))))
             (when (equal begin "{")
               (domepeeler--check-agrees recording program status (buffer-string)))
+            (domepeeler--mark-read recording)
             (buffer-string)))
       (delete-file errors))))
 

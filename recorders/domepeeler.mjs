@@ -411,7 +411,10 @@ export class Recording {
       this.#markUnread()
       return why
     }
-    if (report.verdict === "accepted" || (this.#weak && report.weak === true)) return null
+    if (report.verdict === "accepted" || (this.#weak && report.weak === true)) {
+      if (this.#open.size) this.#markUnread() // what is to come still
+      return null
+    }
     try {
       this.#stopped = this.#explained(node, null, this.#weak).trimEnd()
     } catch (why) {

@@ -228,8 +228,10 @@ class Recording:
         context = sys.modules.get("multiprocessing.context")
         if self._is_watched and context is not None and context.get_spawning_popen() is not None:  # for a process that shares nothing with this one
             raise Refused(COPIED)
-        unread = _UNREAD.pop(self._number, None)  # from now on the copy's
-        return {**{name: value for name, value in vars(self).items() if name != "_lock"}, "_is_copy": self._is_watched, "_is_unread": unread is not None}
+        is_unread = self._number in _UNREAD
+        if _is_worker():  # of which the copy is what is handed on
+            self._mark_read()
+        return {**{name: value for name, value in vars(self).items() if name != "_lock"}, "_is_copy": self._is_watched, "_is_unread": is_unread}
 
     def __setstate__(self, state: Dict[str, Any]) -> None:
         is_unread = state.pop("_is_unread", False)
@@ -439,6 +441,8 @@ class Recording:
             self._mark_unread()
             return why.with_traceback(None)
         if report["verdict"] == "accepted" or (self._weak and report.get("weak") is True):
+            if self._open:  # what is to come still
+                self._mark_unread()
             return None
         try:
             self._stopped = self.explain(weak=self._weak).rstrip("\n")
@@ -809,10 +813,16 @@ def _tell(words: str, callers: Callers) -> None:
 
 def _tell_at_end_of_worker() -> None:
     """Has a worker of multiprocessing tell it too: what is registered otherwise these don't call."""
-    util, process = sys.modules.get("multiprocessing.util"), sys.modules.get("multiprocessing.process")
-    if util and process and os.getpid() not in _TELLING and process.parent_process() is not None:
+    util = sys.modules.get("multiprocessing.util")
+    if util and os.getpid() not in _TELLING and _is_worker():
         _TELLING.add(os.getpid())
         util.Finalize(None, _tell_unread, exitpriority=0)
+
+
+def _is_worker() -> bool:
+    """Whether multiprocessing began this process."""
+    process = sys.modules.get("multiprocessing.process")
+    return process is not None and process.parent_process() is not None
 
 
 def _callers() -> Callers:

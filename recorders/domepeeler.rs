@@ -67,6 +67,7 @@ const LAST: &str = "\nThe list specifications\n"; // that of the last section th
 const ONE_LOG: &str = "one replica's log is no recording: merge the logs first";
 const FAILED_TRACES: &str = "failed_traces"; // the folder of traces that were not accepted in tests
 const OF_DOCTESTS: &str = "rust_out"; // the name of each program of an example in documentation
+const MOST_PARENTS: usize = 20; // that are looked at for the one that runs tests
 const LETTERS_OF_HASH: usize = 16; // which cargo puts behind the name of a program of tests
 const RUNS: &str = ".runs"; // in it: for each run of tests a folder, with a mark for each trace that it has saved
 const MARK: &str = "mark"; // the ending of its name; in it stands the number of the process that saved the trace
@@ -1756,8 +1757,11 @@ fn is_of_another(path: &Path) -> bool {
     for folder in fs::read_dir(Path::new(FAILED_TRACES).join(RUNS)).into_iter().flatten().flatten() {
         let run = folder.file_name().to_string_lossy().into_owned();
         let own = std::process::id().to_string();
+        let is_folder = matches!(folder.file_type(), Ok(kind) if kind.is_dir());
         if run == this_run() {
             is_another |= matches!(fs::read_to_string(mark_of(path, &run)), Ok(number) if number != own);
+        } else if !is_folder {
+            continue; // it is nobody's
         } else if is_run(&run) && !is_at_work(&run, &folder.path()) {
             forget(&folder.path());
         } else if is_run(&run) {
@@ -1770,7 +1774,8 @@ fn is_of_another(path: &Path) -> bool {
 /// Removes the marks of a run that has ended.
 fn forget(folder: &Path) {
     for mark in fs::read_dir(folder).into_iter().flatten().flatten() {
-        let is_mark = matches!(fs::read_to_string(mark.path()), Ok(number) if number.bytes().all(|byte| byte.is_ascii_digit()));
+        let is_file = matches!(mark.file_type(), Ok(kind) if kind.is_file());
+        let is_mark = is_file && matches!(fs::read_to_string(mark.path()), Ok(number) if number.bytes().all(|byte| byte.is_ascii_digit()));
         if is_mark && matches!(mark.path().extension(), Some(ending) if ending == MARK) {
             let _ = fs::remove_file(mark.path()); // another may have done so
         }
@@ -1778,19 +1783,41 @@ fn forget(folder: &Path) {
     let _ = fs::remove_dir(folder);
 }
 
-/// Which run of tests this process is of, by the process that began it: cargo, which begins one for each file of tests, rustdoc, which begins one
-/// for each example, or itself.
+/// Which run of tests this process is of, by the process that began it: cargo, which begins one for each file of tests, also by way of rustdoc or a
+/// runner of yours; or itself.
 fn this_run() -> String {
     static RUN: Mutex<Option<String>> = Mutex::new(None);
     let mut run = RUN.lock().unwrap_or_else(|poisoned| poisoned.into_inner());
-    run.get_or_insert_with(|| {
-        #[cfg(unix)]
-        if std::env::var_os("CARGO").is_some() && (has_hash(&program()) || program() == OF_DOCTESTS) {
-            return name_of_run(std::os::unix::process::parent_id());
+    let is_test = std::env::var_os("CARGO").is_some() && (has_hash(&program()) || program() == OF_DOCTESTS);
+    run.get_or_insert_with(|| name_of_run(is_test.then(runner).flatten().unwrap_or_else(std::process::id))).clone()
+}
+
+/// The process farthest up that runs tests and began this one, perhaps by way of others; none where the system does not say, or it has ended.
+fn runner() -> Option<u32> {
+    let (mut process, mut found) = (std::process::id(), None);
+    for _ in 0..MOST_PARENTS {
+        let told = fs::read_to_string(format!("/proc/{process}/stat")).unwrap_or_default();
+        let name = told.split_once('(').and_then(|(_, rest)| rest.rsplit_once(')')).map_or("", |(name, _)| name);
+        if name.starts_with("cargo") || name == "rustdoc" {
+            found = Some(process);
         }
-        name_of_run(std::process::id())
-    })
-    .clone()
+        let parent = told.rsplit_once(") ").and_then(|(_, rest)| rest.split(' ').nth(1)).and_then(|number| number.parse().ok());
+        match parent {
+            Some(number) if number > 0 => process = number,
+            _ => break,
+        }
+    }
+    if told_of_processes() {
+        return found;
+    }
+    #[cfg(unix)]
+    return Some(std::os::unix::process::parent_id());
+    #[cfg(not(unix))]
+    None
+}
+
+fn told_of_processes() -> bool {
+    Path::new("/proc/self/stat").exists()
 }
 
 /// The name of a run, by the process that began it: its number, when it was begun, and in which space of such numbers, as a container has its own.

@@ -26,8 +26,10 @@ def record(recording, entry):
         recording.read(pad, shows)
 
 
+if len(sys.argv) != 3:
+    sys.exit("usage: convert.py LOG TRACE")
 log, trace = sys.argv[1:]
-if os.path.exists(trace) and os.path.samefile(log, trace):
+if any(os.path.exists(path) and os.path.samefile(log, path) for path in (trace, trace + ".lines")):
     sys.exit("convert.py: the trace would be written over the log")
 recording = Recording(2)
 with open(log, encoding="utf-8") as lines:

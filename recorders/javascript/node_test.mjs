@@ -17,8 +17,8 @@
 //     await accepted(recording, "failed.trace") // which judges what is recorded by then
 //
 // It is handed to test() itself: a test that answers it, as by `() => recorded(2, ...)`, would run nothing, and fails. One that makes it and
-// does not answer it, as by `() => { recorded(2, ...) }`, fails the process. What is made elsewhere and never called is told of on standard
-// error when the process ends, unless some tests alone were to run: perhaps it was skipped.
+// does not answer it, as by `() => { recorded(2, ...) }`, is told of on standard error when the process ends; so is what is made elsewhere and never
+// called, unless some tests alone were to run. It is no error, since a test may be skipped. The reporters `dot` and `junit` hush it.
 //
 // With { stop: true } as a last argument of recorded() the test fails in the call that answered wrong, and its error's stack begins there.
 //
@@ -52,7 +52,6 @@ process.on("exit", () => {
   const within = [...uncalled.values()].filter(({ test }) => test), others = [...uncalled.values()].filter(({ test }) => !test)
   for (const { test, neverCalled } of within) {
     console.error(`${test}: ${UNCALLED}\n${linesOf(neverCalled)}`)
-    process.exitCode ||= 1 // nothing can call it any more, and a reporter may hush what is told
   }
   if (others.length) {
     const more = others.length > 1 ? ` (and ${others.length - 1} more like it)` : ""
@@ -250,7 +249,8 @@ async function unmark(path) {
 // Whether another run that is still at work has marked this trace. What ended ones have marked is theirs no longer.
 async function isOfAnother(path) {
   const folder = join(dirname(path), RUNS)
-  for (const run of (await readdir(folder).catch(() => [])).filter((name) => /^[0-9]+-[0-9]+-[0-9]+$/.test(name) && name !== RUN)) {
+  const runs = (await readdir(folder, { withFileTypes: true }).catch(() => [])).filter((one) => one.isDirectory()).map(({ name }) => name)
+  for (const run of runs.filter((name) => /^[0-9]+-[0-9]+-[0-9]+$/.test(name) && name !== RUN)) {
     if (!await isAtWork(run, join(folder, run)).catch(() => false)) await forget(join(folder, run))
     else if (await stat(markOf(path, run)).then(() => true, () => false)) return true
   }
@@ -259,7 +259,8 @@ async function isOfAnother(path) {
 
 // Removes the marks of a run that has ended.
 async function forget(folder) {
-  for (const name of (await readdir(folder).catch(() => [])).filter((name) => name.endsWith(MARK))) {
+  const marks = (await readdir(folder, { withFileTypes: true }).catch(() => [])).filter((one) => one.isFile() && one.name.endsWith(MARK))
+  for (const { name } of marks) {
     const file = join(folder, name)
     if (/^[0-9]*$/.test(await readFile(file, "latin1").catch(() => "none"))) await rm(file).catch(() => {}) // else it is none
   }

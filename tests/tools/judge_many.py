@@ -1317,6 +1317,12 @@ def overwriting(tally: Tally, program: str, folder: str) -> None:
         got = subprocess.run([sys.executable, ROOT / "examples/log/convert.py", log, trace], capture_output=True, text=True, env={**os.environ, "PYTHONPATH": str(ROOT / "recorders")})
         tally.check(f"overwriting: convert.py {trace}", (got.returncode, got.stdout, got.stderr) == (1, "", "convert.py: the trace would be written over the log\n")
                     and log.read_bytes() == (ROOT / "examples/log/pads.log").read_bytes(), got)
+    beside = Path(folder, "beside.trace.lines")
+    beside.symlink_to(log)
+    got = subprocess.run([sys.executable, ROOT / "examples/log/convert.py", log, Path(folder, "beside.trace")], capture_output=True, text=True,
+                         env={**os.environ, "PYTHONPATH": str(ROOT / "recorders")})
+    tally.check("overwriting: convert.py, what stands beside the trace", got.returncode == 1 and log.read_bytes() == (ROOT / "examples/log/pads.log").read_bytes(), got)
+    beside.unlink()
     log.unlink()
     for name, other in ("0", "trace 1\nreplicas 1\n0 ins b 0 : b\n"), ("1", "trace 2\nreplicas 1\n0 view :\n"):  # as in `--junit *.trace`
         first = Path(folder, f"{name}.trace")

@@ -453,6 +453,7 @@ test("within", async (context) => {
 })
 test("block", () => { recorded(1, body) }) // answers nothing
 test("skipped", { skip: true }, recorded(1, body))
+test("skips within", async (context) => { await context.test("later", { skip: true }, recorded(1, body)) })
 recorded(1, body) // handed to nobody
 """
 
@@ -1857,10 +1858,10 @@ def check_ends_of_node(tally: Tally, place: Place) -> None:
     others = f"domepeeler: what recorded() made here was never called, so it recorded nothing: was its test skipped, or is it not handed to test()? (and 1 more like it)"
     tally.check("node --test: what it makes elsewhere is told of too", others in done.stdout and
                 f"never.test.mjs:{line_with(NEVER_CALLED, 'skip: true')}:" in done.stdout.partition(others)[2], done.stdout)
+    skipping = place.run([*words[:-1], "--test-name-pattern=skips within", "never.test.mjs"], "packed")
+    tally.check("node --test: but that is no error, since it may be skipped", skipping.returncode == 0, skipping.stdout)
     chosen = place.run([*words[:-1], "--test-name-pattern=inner", "never.test.mjs"], "packed")
     tally.check("node --test: but where some tests alone are to run", "domepeeler: what recorded() made" not in chosen.stdout, chosen.stdout)
-    alone = place.run([*words[:-1], "--test-reporter=dot", "--test-name-pattern=block", "never.test.mjs"], "packed")
-    tally.check("node --test: it fails where a reporter hushes that", alone.returncode == 1, alone.stdout)
     done = place.run(words_refused, "packed", TIMER="1")
     tally.check("node --test: a call that is refused later still is told of", done.returncode == 1 and "ok 2 - timer" in done.stdout and
                 "timer: a call was refused when the test had ended, so what it says was not judged" in done.stdout, done.stdout)
@@ -2015,6 +2016,12 @@ def check_same_names(tally: Tally, place: Place) -> None:
     saved = {path.stem: path.read_text().split()[6] for path in folder.glob("*.trace")}
     tally.check("cargo: tests with the same name in a library and its program, and of other tests", set(saved.values()) == {"a", "b", "c", "d", "e"} and
                 saved.get("own-editor-tests-two_users") == "a" and {"own-editor-tests-t-st", "own-editor-tests-t-st-2"} < set(saved), (saved, done.stdout))
+    shutil.rmtree(folder)
+    runner = place.make("same/runner", '#!/bin/sh\n"$@"\nexit $?\n', 0o755)
+    machine = re.search("^host: (.*)$", place.run(["rustc", "-vV"]).stdout, re.MULTILINE)[1].upper().replace("-", "_")
+    done = place.run(["cargo", "test", "--offline", "--quiet", "--no-fail-fast", "--lib", "--bins"], "same", LOST="1", CARGO_TARGET_DIR=str(place.folder / "rust/target"),
+                     **{f"CARGO_TARGET_{machine}_RUNNER": runner})
+    tally.check("cargo: the same by way of a runner", {path.read_text().split()[6] for path in folder.glob("*.trace")} == {"a", "b", "c"}, done.stdout)
     done = place.run(["cargo", "test", "--offline", "--quiet", "--no-fail-fast"], "same", CARGO_TARGET_DIR=str(place.folder / "rust/target"))
     tally.check("cargo: where they pass their traces are removed", done.returncode == 0 and not list(folder.glob("*.trace")), done.stdout)
 

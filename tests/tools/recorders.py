@@ -1318,9 +1318,22 @@ if way in ("not judged", "not stopped"):
 if way == "not saved":
     try: recording.save("nowhere/unread.trace")
     except OSError: pass
+if way == "comes later":
+    recording.text()
+    recording = Recording(3, stop=True)
+    recording.insert(0, "a", 0, ["a"])
+    recording.received_clock(1, 0, recording.clock(0))
+    recording.insert(1, "b", 1, ["a", "b"])
+    try: recording.received_clock(2, 1, recording.clock(1))
+    except Refused: recording.read(2, [])  # it is to come
 if way == "copy":
     import copy
     copy.deepcopy(recording).judge()
+    recording.text()
+if way == "not copied":
+    import pickle
+    try: pickle.dumps((recording, begin))
+    except Exception: pass
 if way == "worker":
     import multiprocessing
     recording.text()
@@ -1365,6 +1378,18 @@ if (way === "not judged" || way === "not stopped") {{
   }} catch {{}}
 }}
 if (way === "not saved") await recording.save("nowhere/unread.trace").catch(() => {{}})
+if (way === "comes later") {{
+  recording.text()
+  const coming = new Recording(3, null, {{ stop: true }})
+  coming.insert(0, "a", 0, ["a"])
+  coming.receivedClock(1, 0, coming.clock(0))
+  coming.insert(1, "b", 1, ["a", "b"])
+  try {{
+    coming.receivedClock(2, 1, coming.clock(1))
+  }} catch {{
+    coming.read(2, []) // it is to come
+  }}
+}}
 if (way === "not awaited") {{
   recording.save("late.trace")
   process.exit()
@@ -1381,13 +1406,25 @@ if (way === "not awaited") {{
   (when (string= way "more") (domepeeler-read recording 0 \'("a")))
   (when (string= way "refused") (ignore-errors (domepeeler-read recording 7 nil)))
   (when (string= way "nothing recorded") (domepeeler-new 1))
-  (when (string= way "stop") (domepeeler-read (domepeeler-new 1 nil t) 0 nil)))
+  (when (string= way "stop") (domepeeler-read (domepeeler-new 1 nil t) 0 nil))
+  (when (string= way "not saved") (ignore-errors (domepeeler-save recording "nowhere/unread.trace")))
+  (when (member way \'("not judged" "not stopped"))
+    (setenv "DOMEPEELER" "/nowhere")
+    (if (string= way "not judged") (ignore-errors (domepeeler-judge recording))
+      (domepeeler-text recording)
+      (ignore-errors (domepeeler-read (domepeeler-new 1 nil t) 0 nil))))
+  (when (member way \'("wrong" "wrong and explained"))
+    (domepeeler-text recording)
+    (let ((stopping (domepeeler-new 1 nil t)))
+      (ignore-errors (domepeeler-read stopping 0 \'("b")))
+      (when (string= way "wrong and explained") (domepeeler-explain stopping)))))
 ''', ["emacs", "-Q", "--batch", "-l", "unread.el"]),
 }
 UNREAD_WAYS = {  # with how many recordings nobody has read then, and which line recorded last
     "nothing": (1, "inserts"), "two": (2, "inserts"), "text": (0, ""), "save": (0, ""), "judge": (0, ""), "explain": (0, ""), "more": (1, "reads"), "refused": (1, "inserts"),
     "nothing recorded": (0, ""), "stop": (0, ""), "error": (1, "inserts"), "fork": (1, "inserts"), "wrong": (-1, "answers wrong"), "wrong and explained": (0, ""),
-    "not judged": (1, "inserts"), "not stopped": (1, "is not judged"), "not saved": (1, "inserts"), "not awaited": (1, "inserts"), "copy": (0, ""), "worker": (1, "inserts")}
+    "not judged": (1, "inserts"), "not stopped": (1, "is not judged"), "not saved": (1, "inserts"), "not awaited": (1, "inserts"), "copy": (0, ""), "not copied": (1, "inserts"),
+    "comes later": (1, "it is to come"), "worker": (1, "inserts")}
 UNREAD_TOLD = {0: "", 1: "domepeeler: nothing has judged a recording, saved it or taken its text since something was recorded or refused",
                2: "domepeeler: nothing has judged 2 recordings, saved them or taken their texts since something was recorded or refused",
                -1: "domepeeler: a recording that was judged after each call is wrong: contents 0.1: this response has one element that should not be there."}
