@@ -24,8 +24,8 @@
  * Each call that a trace can't say answers 0 and leaves the recording as it was; domepeeler_why() then says why, and
  * domepeeler_full() whether it is that a limit of traces is reached: then end this session, and begin another. What was refused is
  * missing in the recording, so warnings and explanations begin with it. domepeeler_free() says on standard error where nothing has judged the
- * recording, explained it, saved it or taken its text since something was recorded or refused. domepeeler_judge() answers the report as JSON,
- * whatever the verdict is: a test that doesn't look at it passes.
+ * recording, explained it, saved it or taken its text since something was recorded or refused; the end of the process says it of what is not
+ * freed. domepeeler_judge() answers the report as JSON, whatever the verdict is: a test that doesn't look at it passes.
  *
  * An editor with a server that orders changes (Jupiter and its kin) promises the weak list specification alone, and is right with
  * `refused 3` or more. For such a one ask, in the place of domepeeler_passes() and domepeeler_explain():
@@ -152,6 +152,8 @@ struct domepeeler_open {
 
 struct domepeeler {
     pthread_mutex_t *lock; /* held by each call */
+    pthread_mutex_t *of_all;           /* held where one is listed, or no longer; NULL for one that is not */
+    struct domepeeler **listed, *next; /* what leads to it in the list of those that are not freed, and the next one there */
     char *text;
     size_t length, room;
     int replicas, only; /* only is -1 where all replicas are recorded */
@@ -376,24 +378,84 @@ static inline struct domepeeler_abort *domepeeler_aborting(void) {
     return &last;
 }
 
-/* Says on standard error if nobody has what is freed, and so nobody has judged it. A session that is judged after each call lacks what was
- * refused alone. */
-static inline void domepeeler_tell_unjudged(const struct domepeeler *d) {
+/* The recordings that this file of your program began and nobody has freed. */
+struct domepeeler_all {
+    pthread_mutex_t lock;
+    struct domepeeler *first;
+    int is_told;  /* whether the end of the process tells of them */
+    long process; /* that began the last one */
+};
+
+static inline struct domepeeler_all *domepeeler_all(void) {
+    static struct domepeeler_all all = {PTHREAD_MUTEX_INITIALIZER, NULL, 0, 0};
+    return &all;
+}
+
+/* Whether nobody has what this process recorded, and so nobody has judged it. A session that is judged after each call lacks what was refused
+ * alone. */
+static inline int domepeeler_is_unjudged(const struct domepeeler *d) {
     size_t refused = d->refused;
     for (int i = 0; i < DOMEPEELER_REPLICAS * DOMEPEELER_REPLICAS; i++)
         refused += d->open[i / DOMEPEELER_REPLICAS][i % DOMEPEELER_REPLICAS].n > 0;
-    if (!d->is_new || d->is_wrong || (d->stops && !refused) || d->process != (long)getpid()) return;
+    return d->is_new && !d->is_wrong && (!d->stops || refused) && d->process == (long)getpid();
+}
+
+/* Says on standard error that nobody has what became of a recording as the words say. */
+static inline void domepeeler_tell_unjudged(const struct domepeeler *d, const char *words) {
     const struct domepeeler_caller *last = d->called ? &d->callers[d->called - 1] : NULL;
     int is_placed = last && last->file;
-    fprintf(stderr, "domepeeler: a recording is freed, and nothing has judged it, saved it or taken its text since something was %s",
+    fprintf(stderr, "domepeeler: %s, and nothing has judged it, saved it or taken its text since something was %s", words,
             d->stops ? "refused" : "recorded or refused");
     if (is_placed) fprintf(stderr, "; its last line was recorded by %s:%d", last->file, last->line);
     fprintf(stderr, *d->why ? "; the last call that failed: %s\n" : "%s\n", d->why);
 }
 
+/* As the process ends: says on standard error of what is not freed that nobody has it, of one whole and how many more there are. */
+static inline void domepeeler_tell_left(void) {
+    struct domepeeler_all *all = domepeeler_all();
+    size_t count = 0;
+    if (all->process != (long)getpid()) return; /* of a forked one, where another thread may have held the lock */
+    pthread_mutex_lock(&all->lock);
+    for (struct domepeeler *d = all->first; d; d = d->next) {
+        int is_free = !pthread_mutex_trylock(d->lock); /* else some thread is in a call, or in the call-back that ends the process */
+        if (domepeeler_is_unjudged(d) && !count++) domepeeler_tell_unjudged(d, "a recording is not freed as the process ends");
+        if (is_free) pthread_mutex_unlock(d->lock);
+        d->of_all = NULL;
+    }
+    all->first = NULL;
+    pthread_mutex_unlock(&all->lock);
+    if (count > 1) fprintf(stderr, "domepeeler: and %lu more so\n", (unsigned long)(count - 1));
+}
+
+/* Lists a recording among those that are not freed. */
+static inline void domepeeler_list(struct domepeeler *d) {
+    struct domepeeler_all *all = domepeeler_all();
+    pthread_mutex_lock(&all->lock);
+    all->is_told = all->is_told || !atexit(domepeeler_tell_left);
+    all->process = (long)getpid();
+    d->next = all->first;
+    if (d->next) d->next->listed = &d->next;
+    d->listed = &all->first;
+    all->first = d;
+    d->of_all = &all->lock;
+    pthread_mutex_unlock(&all->lock);
+}
+
+static inline void domepeeler_unlist(struct domepeeler *d) {
+    pthread_mutex_t *lock = d->of_all;
+    if (!lock) return;
+    pthread_mutex_lock(lock);
+    if (d->of_all) {
+        *d->listed = d->next;
+        if (d->next) d->next->listed = d->listed;
+    }
+    pthread_mutex_unlock(lock);
+}
+
 static inline void domepeeler_free(struct domepeeler *d) {
     if (!d) return;
-    domepeeler_tell_unjudged(d);
+    domepeeler_unlist(d);
+    if (domepeeler_is_unjudged(d)) domepeeler_tell_unjudged(d, "a recording is freed");
     if (domepeeler_aborting()->recording == d) domepeeler_aborting()->recording = NULL;
     domepeeler_forget_callers(d, 0);
     free(d->callers);
@@ -433,6 +495,7 @@ static inline struct domepeeler *domepeeler_new_only(int replicas, int only) {
     char first[64];
     snprintf(first, sizeof first, "trace 1\nreplicas %d\n", replicas);
     domepeeler_put(d, first);
+    domepeeler_list(d);
     return d;
 }
 

@@ -172,7 +172,7 @@ def prepare():
     JUDGED.mkdir(exist_ok=True)
     lock()
     made = JUDGED / MADE
-    own = [MADE] + made.read_text().splitlines() if made.is_file() else []
+    own = [MADE] + made.read_text(errors="surrogateescape").splitlines() if made.is_file() else []
     others = sorted(set(os.listdir(JUDGED)) - set(own))
     if others:
         more = " and others" if len(others) > MOST_LEFT else ""

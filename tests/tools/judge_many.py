@@ -31,10 +31,11 @@ from shared.program import Ended, Tally, is_running, need, program_of, run  # no
 from shared.sessions import session  # noqa: E402
 from shared.traces import two_rings  # noqa: E402
 
-sys.path[:0] = [str(ROOT / "recorders" / "engines"), str(ROOT / "recorders"), str(ROOT / "tools")]
+sys.path[:0] = [str(ROOT / "recorders" / "engines"), str(ROOT / "recorders"), str(ROOT / "tools"), str(ROOT / "examples" / "planted")]
 import merge  # noqa: E402
+import planted  # noqa: E402
 import sessions as exchanged  # noqa: E402
-from explaining import files, judges, lookers, rows  # noqa: E402
+from explaining import files, in_common, judges, lookers, rows  # noqa: E402
 from explaining.kinds import HINT  # noqa: E402
 from list_crdt import Group, play  # noqa: E402
 
@@ -374,6 +375,85 @@ def in_gitlab(tally: Tally, project: str, path: str, step: str) -> None:
     suite = xml.parse(f"{project}/judged/junit.xml").getroot().find("testsuite")
     counts = {key: suite.get(key) for key in ("tests", "failures", "errors")}
     tally.check("CI: GitLab: the counts of JUnit's file", counts == {"tests": "4", "failures": "1", "errors": "1"}, counts)
+
+
+# What some failing sessions have in common, beside others that pass: by a name these, as often as stands there, and what is told.
+BEGUN_TWICE = "0 ins a 0 : a|1 recv 0 1|0 del a :|1 del a :|1 recv 0 2|0 recv 1 1|1 ins b 0 : b|1 read :"  # a delete comes to each that has deleted a
+BEGUN_ONCE = "0 ins a 0 : a|1 recv 0 1|0 del a :|1 recv 0 2|1 ins b 0 : b|1 read :"
+RIGHT_TWICE, RIGHT_ONCE = f"{BEGUN_TWICE} b|0 recv 1 2|0 read : b", f"{BEGUN_ONCE} b|0 recv 1 1|0 read : b"
+TIED = "0 ins a 0 : a|1 ins b 0 : b|0 recv 1 1|0 read : a b|1 recv 0 1|1 read :"  # both at the front
+IN_TURN = "0 ins a 0 : a|1 recv 0 1|1 ins b 1 : a b|0 recv 1 1|0 read : a b|1 read : a b|0 ins c 2 : a b c|1 recv 0 3|1 read : a b c"
+IN_COMMON = {
+    "deleted twice": ([(5, BEGUN_TWICE)], [(2, RIGHT_TWICE), (10, RIGHT_ONCE)], [
+        "  before each: a delete came whose element was deleted there already (in 2 of those that pass)",
+        "  before each: a change came whose author had not seen one of the receiver's own (in 2 of those that pass)"]),
+    # Of 48 lists that are right 12 come so: one in each failing session, two in each of the four that pass.
+    "at one place": ([(4, f"{TIED} b a")], [(4, f"{TIED} a b"), (4, IN_TURN)], [
+        "  right before each: an insert came to a place where an element stood that its author had not seen (before 25 % of the lists that are right)",
+        "  right before each: a change came whose author had not seen one of the receiver's own (before 25 % of the lists that are right)",
+        "  not needed: deletes (4 fail without)"]),
+    "none that pass": ([(3, BEGUN_ONCE)], [], ["  not needed: changes that don't know of each other (3 fail without)"]),
+    "too few": ([(2, BEGUN_TWICE)], [(10, RIGHT_ONCE)], []),
+    "nothing stands out": ([(3, BEGUN_TWICE)], [(9, RIGHT_TWICE)], []),
+}
+# By planted bug what the first line says, by what the bug is.
+OF_PLANTED = {
+    "tombstone": "an insert came whose neighbour was deleted there", "tie": "an insert came to a place where an element stood that its author had not seen",
+    "clock": "a replica inserted right behind what another one had inserted", "overtaking": "several changes came at once",
+    "mapping": "an insert came whose author had not seen a delete that was there", "unmoved": "a delete came whose author had not seen an insert that was there",
+    "behind": "an insert came to a place where an element stood that its author had not seen", "twice": "a delete came whose element was deleted there already",
+    "none": "", "none_behind_server": "",
+}
+
+
+def what_is_common(tally: Tally, program: str, folder: str) -> None:
+    """What failing sessions have in common, by sessions that were counted by hand, and by random ones of engines with planted bugs."""
+    for name, (wrong, right, told) in IN_COMMON.items():
+        place = os.path.join(folder, name)
+        write(place, {f"{kind}{number}-{of}.trace": entries for kind, sessions in (("wrong", wrong), ("right", right)) for number, (count, entries) in enumerate(sessions)
+                      for of in range(count)})
+        counts = [sum(count for count, _ in sessions) for sessions in (wrong, right)]
+        beside = f", beside {counts[1]} sessions that pass" if right else ""
+        head = f"What {counts[0]} failures have in common{beside}. Look first at what your editor does then; these are counts, and the first line tells most:"
+        for words in [], ["--failing"]:
+            done = subprocess.run([TOOL, "--program", program, *words, place], capture_output=True, text=True)
+            said = done.stdout.partition(f"\n{sum(counts)} traces: ")[2].splitlines()[1:]
+            tally.check(f"in common: {name} {words}", done.returncode == 1 and said == (["", head, *told] if told else []) and not done.stderr, done)
+        done = subprocess.run([TOOL, "--program", program, "--json", place], capture_output=True, text=True)
+        tally.check(f"in common: {name}: no word in JSON", "in common" not in done.stdout + done.stderr, done)
+    for bug, wanted in OF_PLANTED.items():
+        place = Path(folder, bug)
+        place.mkdir()
+        for seed in range(60):
+            (place / f"{seed}.trace").write_text(planted.session(bug, seed, 16).text())
+        weak = ["--weak"] if bug in planted.BEHIND_SERVER else []
+        done = subprocess.run([TOOL, "--program", program, "--failing", *weak, str(place)], capture_output=True, text=True)
+        first = done.stdout.partition(" tells most:\n  ")[2].partition("\n")[0]
+        tally.check(f"in common: planted: {bug}", f": {wanted} (" in first if wanted else done.returncode == 0 and "in common" not in done.stdout, done)
+    Path(folder, "twice", "0.trace").unlink()
+    row = rows.Row(f"{folder}/twice/0.trace", "contents", None, 9, 0.0, 1, None, "", fails_at=9)
+    tally.check("in common: of traces that are gone, or are others by now", in_common.in_common([row] * 9 + [row._replace(file=f"{folder}/twice/1.trace", lines=3)] * 9) == [])
+
+
+def time_of_common(tally: Tally, program: str, folder: str) -> None:
+    """What many have in common is found by some of them: of thousands it takes no longer than of hundreds."""
+    taken = []
+    for number, count in enumerate((300, 3000)):
+        place = Path(folder, str(number))
+        place.mkdir()
+        failing = rows.Row("", "contents", None, 0, 0.0, 1, None, "", fails_at=1)
+        found = []
+        for seed in range(100):
+            text = planted.session("tie", seed, 40).text()
+            (place / f"{seed}.trace").write_text(text)
+            found.append(failing._replace(file=str(place / f"{seed}.trace"), lines=text.count("\n"), fails_at=text.count("\n")))
+        passing = [row._replace(verdict="accepted", fails_at=None) for row in found]
+        many = (found + passing) * (count // 200 or 1)
+        begin = time.process_time()
+        told = in_common.in_common(many)
+        taken.append(time.process_time() - begin)
+        tally.check(f"in common: of {count}, how many were looked at", not told or f"What 100 of {len(many) // 2} failures" in told[0] or len(many) == 200, told)
+    tally.check("in common: its time", taken[1] < 3 * taken[0] + 0.5 and taken[1] < 5, taken)
 
 
 def others(tally: Tally, folder: str, other: str) -> None:
@@ -1775,6 +1855,11 @@ def script_of_ci(tally: Tally, program: str, folder: str) -> None:
     tally.check("script of CI: a file of one's own that is named like its own", done.returncode == 2 and "(9.trace): move it away" in done.stderr
                 and Path(place, "judged", "9.trace").read_text() == "mine\n", done)
     Path(place, "judged", "9.trace").unlink()
+    Path(place, "judged", ".made").write_bytes(b"\xff\n1.html\n")
+    Path(os.fsdecode(os.fsencode(place / "judged") + b"/\xff")).write_text("its own, by the list\n")
+    done = in_ci(str(place), path, f"{script} .", {})
+    tally.check("script of CI: a list of its files that is no UTF-8", (done.returncode, done.stdout) == (again.returncode, again.stdout.replace("3 not", "2 not").replace(
+        "\n  and 1 more that looks alike: b.trace", "")) and b"\xff" not in os.listdir(os.fsencode(place / "judged")), done)
     write(str(place), {"-rec/a.trace": "0 ins a 0 : a"})
     done = in_ci(str(place), path, f"{script} -rec", {})
     tally.check("script of CI: a folder like an option", done.returncode == 0 and done.stdout == "all recordings below -rec are accepted\n", done)
@@ -2131,7 +2216,7 @@ def main() -> None:
         fails_at(tally, program, third)
         warnings(tally, program, folder)
         warnings_of_sessions(tally, program, other)
-    for check in (pythons, left_over, beside_elsewhere, safe_paths, little_memory, not_looked_at, changing, told_of_what_was_judged, explained_once, weak, weak_junit, weak_in_ci,
+    for check in (what_is_common, time_of_common, pythons, left_over, beside_elsewhere, safe_paths, little_memory, not_looked_at, changing, told_of_what_was_judged, explained_once, weak, weak_junit, weak_in_ci,
                   known_as_cut, refused_calls, grouped, no_entries, no_files, overwriting, millions_of_names, odd_names, one_way_to_show, odd_words, names_like_commands, tasks, script_of_ci,
                   big_traces, time_of_small, time_of_big, long_cycles):
         with tempfile.TemporaryDirectory() as folder:

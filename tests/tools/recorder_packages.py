@@ -1584,6 +1584,12 @@ fn is_set(name: &str) -> bool {
 #[test]
 fn soon() {
     let name = env::var("NAME").unwrap();
+    for _ in 0..600 {
+        if !is_set("LATE") || Path::new("begun").exists() {
+            break;
+        }
+        thread::sleep(Duration::from_millis(100));
+    }
     let mut recording = Recording::new(1).unwrap();
     recording.insert(0, &name, 0, if is_set("LOST") { &[] } else { std::slice::from_ref(&name) }).unwrap();
     recording.assert_accepted();
@@ -1646,12 +1652,17 @@ def check_marks(tally: Tally, place: Place, runs: TwoRuns) -> None:
         shutil.rmtree(folder, ignore_errors=True)
         place.make(str(mark.relative_to(place.folder)), "")
         foreign = [place.make(f"{runs.folder}/failed_traces/.runs/{name}", "mine\n") for name in ("notes/x.txt", "1-5-98/x.txt", "2026-11-30/x.mark")]
+        pipe, link, own = (folder / ".runs" / name for name in ("1-5-98/pipe.mark", "1-5-98/link.mark", "notes/7"))
+        os.mkfifo(pipe)
+        own.write_text("7")  # as in a mark
+        link.symlink_to(own)
         trace.write_text("another's\n")
         for one in folder.glob(".runs/*"):
             os.utime(one, (time.time() - days * 86400,) * 2)
         done = place.run(runs.words, runs.folder, NAME="right")
         tally.check(f"{runs.name}: a trace of another container, {days} days old", done.returncode == 0 and trace.exists() == (days == 0) == mark.exists(), done.stdout)
         tally.check(f"{runs.name}: what is no mark, {days} days old", [Path(one).is_file() for one in foreign] == [True, True, True], foreign)
+        tally.check(f"{runs.name}: a pipe and a link are no marks, {days} days old", pipe.is_fifo() and link.is_symlink() and own.read_text() == "7", done.stdout)
     shutil.rmtree(folder)
     place.make(f"{runs.folder}/failed_traces/.runs", "no folder\n")
     done = place.run(runs.words, runs.folder, LOST="1", NAME="lost")
@@ -1965,8 +1976,34 @@ def check_rust(tally: Tally, place: Place) -> None:
     runs = TwoRuns("cargo", ["cargo", "test", "--offline", "--quiet", "--test", "runs"], "rust", "runs-soon", ".run")
     check_two_runs(tally, place, runs)
     check_marks(tally, place, runs)
+    check_killed_cargo(tally, place, runs)
     (place.folder / "rust/tests/runs.rs").unlink()
     check_same_names(tally, place)
+
+
+def check_killed_cargo(tally: Tally, place: Place, runs: TwoRuns) -> None:
+    """Where cargo is killed before its test begins to record, the test saves its trace all the same, and the next run that passes removes it."""
+    folder = place.folder / runs.folder
+    killed = subprocess.Popen(runs.words, cwd=folder, env=place.surroundings | {"LOST": "1", "NAME": "killed", "LATE": "1"}, stdin=subprocess.DEVNULL,
+                              stdout=subprocess.DEVNULL, stderr=subprocess.DEVNULL)
+    children = Path(f"/proc/{killed.pid}/task/{killed.pid}/children")
+    for _ in range(600):
+        tests = [int(number) for number in children.read_text().split() if "runs-" in Path(f"/proc/{number}/cmdline").read_text()]
+        if tests:
+            break
+        time.sleep(0.05)
+    killed.kill()
+    killed.wait()
+    place.make(f"{runs.folder}/begun", "")
+    for _ in range(600):
+        if not Path(f"/proc/{tests[0]}").exists():
+            break
+        time.sleep(0.05)
+    saved = [path.read_text().split()[6] for path in (folder / "failed_traces").glob("*.trace")]
+    tally.check("cargo is killed before its test records: the trace is saved", saved == ["killed"], saved)
+    done = place.run(runs.words, runs.folder, NAME="after")
+    left = [path.name for path in (folder / "failed_traces").iterdir() if path.name not in (".gitignore", ".runs")]
+    tally.check("cargo was killed: the next run that passes removes the trace", done.returncode == 0 and left == [], (left, done.stdout))
 
 
 # A module of a library and of a program, whose tests fail in the library; two of them come to one name.

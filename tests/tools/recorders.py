@@ -3240,9 +3240,9 @@ def check_dropped(tally: Tally, program: str, folder: Path) -> None:
 FREED = f"""#include "{ROOT / 'recorders'}/domepeeler.h"
 static void ignore(const char *words, void *data) {{ (void)words, (void)data; }}
 int main(int count, char **words) {{
-    const char *way = words[1], *lost[] = {{"lost"}};
+    const char *way = words[1], *leaves = words[2], *lost[] = {{"lost"}};
     struct domepeeler *d = domepeeler_new(1);
-    unsigned said = count == 2;
+    unsigned said = count == 3;
     if (!strncmp(way, "stop", 4)) said = domepeeler_stop(d, 0, ignore, NULL);
     if (!strcmp(way, "stop, refused")) said = !domepeeler_read(d, 7, lost, 1);
     if (strcmp(way, "nothing")) said = said && domepeeler_read(d, 0, lost, strcmp(way, "stop, refused") ? 1 : 0); /* reads */
@@ -3259,6 +3259,16 @@ int main(int count, char **words) {{
     }}
     if (!strcmp(way, "forked")) wait(NULL), said = domepeeler_text(d) != NULL;
     free(report);
+    if (strcmp(leaves, "freed")) {{ /* is left behind another one, which is freed, and perhaps one more that is left */
+        struct domepeeler *before = domepeeler_new(1), *after = domepeeler_new(1);
+        said = said && domepeeler_text(before) && domepeeler_text(after);
+        domepeeler_free(before);
+        domepeeler_free(after);
+        if (!strcmp(leaves, "two left")) said = said && domepeeler_read(domepeeler_new(1), 0, lost, 1);
+        if (!strcmp(leaves, "left in a fork") && !fork()) exit(0);
+        if (!strcmp(leaves, "left in a fork")) wait(NULL);
+        return !said;
+    }}
     domepeeler_free(d);
     return !said;
 }}
@@ -3270,19 +3280,23 @@ SILENT_WHEN_FREED = ["nothing", "judge", "explain", "weak", "save", "text", "sto
 
 def check_freed(tally: Tally, program: str, folder: Path) -> None:
     """A program in C that frees a recording which nobody has judged, explained, saved or taken as text since something was recorded or refused says
-    so on standard error, with the last line of code. No right way does."""
+    so on standard error, with the last line of code; and at its end of what it doesn't free. No right way does, and no forked process."""
     place = folder / "freed"
     place.mkdir()
     (place / "freed.c").write_text(FREED)
     subprocess.run(["gcc", "-Wall", "-Wextra", "-Werror", "-o", "freed", "freed.c"], cwd=place, check=True)
     line = next(number for number, text in enumerate(FREED.splitlines(), 1) if "/* reads */" in text)
-    for way in [*TOLD_WHEN_FREED, *SILENT_WHEN_FREED]:
-        done = subprocess.run(["./freed", way], cwd=place, capture_output=True, text=True,
+    for way, leaves in [(way, leaves) for way in [*TOLD_WHEN_FREED, *SILENT_WHEN_FREED] for leaves in ("freed", "left")] + [
+            ("recorded", "left in a fork"), ("recorded", "two left"), ("judge", "two left")]:
+        done = subprocess.run(["./freed", way, leaves], cwd=place, capture_output=True, text=True,
                               env={**os.environ, "DOMEPEELER": program, "DOMEPEELER_EXPLAIN": EXPLAIN})
-        told = (f"domepeeler: a recording is freed, and nothing has judged it, saved it or taken its text since something was {TOLD_WHEN_FREED.get(way)}; "
-                f"its last line was recorded by freed.c:")
-        tally.check(f"C, freed: {way}", done.returncode in (0, 1) and (done.stderr.startswith(told) and done.stderr.count("\n") == 1 and (
-            f"freed.c:{line}" in done.stderr or "later" in way) if way in TOLD_WHEN_FREED else done.stderr == ""), done)
+        begins = "a recording is freed" if leaves == "freed" else "a recording is not freed as the process ends"
+        told = [f"domepeeler: {begins}, and nothing has judged it, saved it or taken its text since something was {TOLD_WHEN_FREED.get(way, 'recorded or refused')}; "
+                f"its last line was recorded by freed.c:"] * (way in TOLD_WHEN_FREED or leaves == "two left")
+        told += ["domepeeler: and 1 more so"] * (way in TOLD_WHEN_FREED and leaves == "two left")
+        said = done.stderr.splitlines()
+        tally.check(f"C, {leaves}: {way}", done.returncode in (0, 1) and len(said) == len(told) and all(line.startswith(words) for line, words in zip(said, told)) and (
+            not told or leaves == "two left" or f"freed.c:{line}" in said[0] or "later" in way), done)
 
 
 # Compilers and the standards that they follow; and headers that a user may include before the recorder.

@@ -6,7 +6,8 @@ from typing import NamedTuple
 
 from .evidence import Evidence
 from .kinds import POSITIONS
-from .telling import at, listed
+from .recordings import Receipt
+from .telling import at, counted, listed
 
 ALONE = "weak alone"  # the name of the last cause: that weak holds
 MOST_TOLD = 3  # deletes, or elements, that are told one by one
@@ -22,6 +23,12 @@ PUT_AT_ONCE = {True: " At the place of {element} also {others} was inserted, and
 OWN_ADJUSTED = "how the replica's own changes that are still on their way are adjusted for what arrives (each of two over the other as that was before), and at how it takes them back and applies them anew, if it does."
 EMPTIED = ("Before that, in line {line}, replica {replica} received {change}, which deletes {element}, though it had deleted that itself, by {other}. Each becomes nothing for the other, and must still be counted as "
            "received, by both sides alike (numbers of messages, what waits for its acknowledgement): else what comes later is adjusted once too often, or too seldom.")
+NONE_ON_WAY = "No change of its own was on its way then: so look at what the server made of {came}, if it adjusts positions, and at what was sent before it."
+ONE_ON_WAY = "{who} had one change of its own on its way then, {own}. What comes must be adjusted for that, and that for what comes."
+SEVERAL_ON_WAY = ("{who} had {count} changes of its own on their way then: {own}. What comes must be adjusted for each of these, one after the other (each in turn as what comes became by the one before), and "
+                  "each of these for what comes; also where some wait in a buffer behind one that is sent.")
+DELETED_TWICE = ("Before that, {element} was deleted at replica {replica} more than once: by {other}, and by {change}, which came in line {line}. If the editor counts how many elements it shows (in blocks, or "
+                 "below the nodes of a tree), it must take each off once alone: else it counts a local position wrongly from then on.")
 BY_ITSELF = "perhaps deleted elements are thrown away there, changes that were held back are applied, or a copy of the list that is shown is made anew."
 
 
@@ -89,15 +96,43 @@ def named(changes: list) -> str:
     return listed([f"the {what[change.kind]} of {change.element} by {at(change)}" for change in changes], MOST_MET)
 
 
-def emptied(evidence: Evidence) -> list:
-    """Where changes carry positions, the last delete before the fault that came where its element had been deleted already, but where several did."""
+def twice(evidence: Evidence) -> list:
+    """The deletes that came before the fault where their element had been deleted already, each with the line, and a delete that was there."""
     found = []
-    for deletes in evidence.recording.deletes.values() if evidence.kind == POSITIONS else []:
+    for deletes in evidence.recording.deletes.values():
         for change, other in product(deletes, deletes):
             arrival = evidence.recording.arrival(change, other.replica) if other.replica != change.replica and not other.has_seen(change) else None
             if arrival is not None and other.line < arrival.line < evidence.last_line and not evidence.recording.is_delivered(arrival.line):
                 found.append((arrival.line, change, other))
+    return sorted(found, key=lambda one: one[0])
+
+
+def emptied(evidence: Evidence) -> list:
+    """Where changes carry positions, the last delete before the fault that came where its element had been deleted already, but where several did."""
+    found = twice(evidence) if evidence.kind == POSITIONS else []
     if not 0 < len(found) <= MOST_EMPTIED:
         return []
-    line, change, other = max(found, key=lambda one: one[0])
+    line, change, other = found[-1]
     return [Cause("emptied", EMPTIED.format(line=line, replica=other.replica, change=change.name, element=change.element, other=at(other)))]
+
+
+def deleted_twice(evidence: Evidence) -> list:
+    """Where changes name elements, of a fault at a replica's own change, the last delete that came there though its element had been deleted there already."""
+    replica = evidence.operations[0].replica
+    found = [one for one in twice(evidence) if one[2].replica == replica] if evidence.kind != POSITIONS else []
+    return [Cause("deleted twice", DELETED_TWICE.format(element=change.element, replica=replica, other=at(other), change=change.name, line=line)) for line, change, other in found[-1:]]
+
+
+def on_way_then(evidence: Evidence, receipt: Receipt, who: str) -> str:
+    """What a replica had on its way when something came, where changes carry positions; of one that changes nothing, as a server, nothing."""
+    if may_be_server(evidence, receipt.replica):
+        return ""
+    own = evidence.on_their_way(receipt)
+    told = SEVERAL_ON_WAY if own[1:] else ONE_ON_WAY if own else NONE_ON_WAY
+    return told.format(who=who, count=counted(len(own)), own=named(own), came=receipt.seen.name)
+
+
+def may_be_server(evidence: Evidence, replica: int) -> bool:
+    """Whether a replica changes nothing itself, where two others do and changes carry positions."""
+    changing = {change.replica for change in evidence.recording.changes()} if evidence.kind == POSITIONS else {replica}
+    return replica not in changing and len(changing) > 1

@@ -1,7 +1,7 @@
 """Where to look in the editor where a response holds other elements than it should, the likeliest cause first."""
 from __future__ import annotations
 
-from .cause import BY_ITSELF, MOST_TOLD, OWN_ADJUSTED, Cause, astray, at_once, changes_told, emptied, is_agreed, is_deleted, lost, named, otherwise, shown_in_orders
+from .cause import BY_ITSELF, MOST_TOLD, OWN_ADJUSTED, Cause, astray, at_once, changes_told, deleted_twice, emptied, is_agreed, is_deleted, lost, may_be_server, named, on_way_then, otherwise, shown_in_orders
 from .evidence import Evidence
 from .kinds import POSITIONS, is_possible
 from .positions import met, met_before, neighbours, not_behind, put_there_at_once
@@ -25,6 +25,8 @@ NOT_APPLIED = ("It looks as if {changes} {were} not applied at replica {replica}
                "change is applied.{later}{elsewhere}{other}")
 KEPT_BACK = (" Between {change} and its first arrival elsewhere (line {first}) replica {author} received {came}: so stop before line {line} too, and look at ")
 LACKED_ELSEWHERE = " Replica {other} lacks {missing} too, in {operation}: so look first at what is sent{server}, and not at replica {replica}."
+LACKED_AT_SERVER = (" Replica {other} lacks {missing} too, in {operation}: so look first at what is sent, and at what replica {replica} makes of it, which changes nothing itself: if it is the server, at how it "
+                    "adjusts what arrives for all that its author had not seen.")
 LATER = {True: " It is shown from {operation} on, behind what came in line {line}: perhaps it was held back until then, or its receipt was written too early.",
          False: " It is shown from {operation} on, though nothing else came between: so it had come, and what was shown is out of date. Is each list that is kept for showing, such as a cache, made anew "
                 "after every change, others' too?"}
@@ -117,7 +119,7 @@ def of_contents(evidence: Evidence) -> list:
     itself = vanished(evidence) if not found and not unknown else []
     if itself:
         return itself
-    found += emptied(evidence)
+    found[1:1] = emptied(evidence)
     found += healed(evidence)
     found += replaced(evidence) if not found else []
     if unknown:
@@ -324,20 +326,32 @@ def wrong_delete(evidence: Evidence, operation: Operation) -> list:
     if is_deleted or not news or is_new or not any(map(operation.has_seen, inserts)):
         return []
     look = WRONG_LOCAL_DELETE if news[0] is operation else WRONG_POSITION if evidence.kind == POSITIONS else WRONG_DELETE
-    told = look.format(delete=at(news[0]), replica=operation.replica, missing=missing, surplus=surplus) + lacked_elsewhere(evidence, news[0], [missing])
-    return tied_first([Cause("wrong delete", told), *moved_delete(evidence, news[0])])
+    told = look.format(delete=at(news[0]), replica=operation.replica, missing=missing, surplus=surplus) + where_it_came(evidence, news[0], [missing])
+    counted_twice = deleted_twice(evidence) if news[0] is operation else []
+    return tied_first([Cause("wrong delete", told), *counted_twice, *moved_delete(evidence, news[0])])
 
 
 def lacked_elsewhere(evidence: Evidence, delete: Operation, missing: list) -> str:
-    """That a third replica which has a delete lacks the same elements, though it has their inserts and no delete of them: then the delete came wrong to both."""
+    """That a third replica which has a delete lacks the same elements, though it has their inserts and no delete of them, nor any that the replica had on its way then: then the
+    delete came wrong to both."""
     replica, recording = evidence.operations[0].replica, evidence.recording
+    arrival = recording.arrival(delete, replica) if delete.replica != replica else None
+    own = [change for change in evidence.on_their_way(arrival) if change.kind == "del"] if arrival else []
     for stream in recording.streams:
         for one in stream:
-            is_third = one.replica not in (delete.replica, replica) and one.kind != "view" and one.has_seen(delete) and not set(missing) & set(one.response)
+            is_third = one.replica not in (delete.replica, replica) and one.kind != "view" and one.has_seen(delete) and not set(missing) & set(one.response) and not any(map(one.has_seen, own))
             if is_third and all(any(map(one.has_seen, recording.inserts.get(name, []))) and not any(map(one.has_seen, recording.deletes.get(name, []))) for name in missing):
-                return LACKED_ELSEWHERE.format(other=one.replica, missing=listed(missing, MOST_TOLD), operation=at(one), replica=replica,
-                                               server="" if evidence.kind not in ("", POSITIONS) else ", and what the server makes of it, if it adjusts positions")
+                words = LACKED_AT_SERVER if may_be_server(evidence, replica) else LACKED_ELSEWHERE
+                return words.format(other=one.replica, missing=listed(missing, MOST_TOLD), operation=at(one), replica=replica,
+                                    server="" if evidence.kind not in ("", POSITIONS) else ", and what the server makes of it, if it adjusts positions")
     return ""
+
+
+def where_it_came(evidence: Evidence, delete: Operation, missing: list) -> str:
+    """Of a delete that seems to have deleted something else, what a third replica shows; else, where changes carry positions, what was on its way where it came."""
+    told = lacked_elsewhere(evidence, delete, missing)
+    arrival = evidence.recording.arrival(delete, evidence.operations[0].replica) if delete.replica != evidence.operations[0].replica else None
+    return told or (f" {on_way_then(evidence, arrival, f'Replica {arrival.replica}')}".rstrip() if arrival and evidence.kind == POSITIONS else "")
 
 
 def misnamed(evidence: Evidence) -> list:
@@ -486,7 +500,7 @@ def second_delete(evidence: Evidence) -> list:
     found = evidence.second_deletes[:1]
     replica = evidence.operations[0].replica
     return [Cause("second delete", SECOND_DELETE[evidence.kind == POSITIONS].format(again=at(again), element=again.element, first=at(first),
-                                                        missing=listed(evidence.lost, MOST_TOLD), applied="" if again.replica == replica else f", applied at replica {replica},") + lacked_elsewhere(evidence, again, evidence.lost))
+                                                        missing=listed(evidence.lost, MOST_TOLD), applied="" if again.replica == replica else f", applied at replica {replica},") + where_it_came(evidence, again, evidence.lost))
             for again, first in found] + [one for again, _ in found for one in moved_delete(evidence, again) if one.name == "positions"]
 
 

@@ -3,7 +3,7 @@ from __future__ import annotations
 
 import re
 
-from .cause import ALONE, BY_ITSELF, MOST_MET, MOST_TOLD, OWN_ADJUSTED, Cause, at_once, emptied, is_agreed, is_deleted, lost, named, otherwise
+from .cause import ALONE, BY_ITSELF, MOST_MET, MOST_TOLD, OWN_ADJUSTED, Cause, at_once, deleted_twice, emptied, is_agreed, is_deleted, lost, named, on_way_then, otherwise
 from .evidence import Evidence
 from .kinds import BY_ELEMENTS, IDENTIFIERS, NEIGHBOURS, POSITIONS, TREE, is_possible
 from .positions import are_put_at_once, elements_before, list_of, met_inserts, neighbours, put_there_at_once
@@ -101,10 +101,6 @@ PRINT = {  # what tells a fault of what is sent from one of how it is applied
                  "compared, and at the search for a place.",
 }
 ODD_ONE = ("Replicas {others} show {one} before {two}. Replica {odd} alone shows them the other way round, first in {operation}: so look first at what it did in line {line}, when {came} came. {own}")
-NONE_ON_WAY = "No change of its own was on its way then: so look at what the server made of {came}, if it adjusts positions, and at what was sent before it."
-ONE_ON_WAY = "It had one change of its own on its way then, {own}. What comes must be adjusted for that, and that for what comes."
-SEVERAL_ON_WAY = ("It had {count} changes of its own on their way then: {own}. What comes must be adjusted for each of these, one after the other (each in turn as what comes became by the one before), and "
-                  "each of these for what comes; also where some wait in a buffer behind one that is sent.")
 MOVED_OR_TIED = ("Look at how a position is adjusted where a change arrives: the position of {element} was perhaps not adjusted for {changes}, which "
              "replica {replica} knew and the author of {element} did not{back}. Or look at the order of concurrent inserts: {first} and {then} were inserted without knowing of each "
              "other, and were shown in two different orders. Use a rule that gives the same order everywhere (such as the replicas' numbers). Client and server must adjust alike, and each change once.")
@@ -154,16 +150,16 @@ def of_position(evidence: Evidence) -> list:
     at_most = min(operation.at, len(others))
     sorted_by = identifiers(operation, others[max(at_most - 1, 0):at_most], others[at_most:at_most + 1])
     if asked < 0 or name not in response or response.index(name) < asked:
-        return [*kept, *stale, Cause("mapping", mapped), *sorted_by]
+        return [*kept, *stale, *deleted_twice(evidence), Cause("mapping", mapped), *sorted_by]
     passed = response[asked:response.index(name)]
     theirs = "theirs" if passed[1:] else f"that of {passed[0]}"
     are_own = all(insert.replica == operation.replica for one in passed for insert in evidence.recording.inserts.get(one, []))
     gone = beside_gone(evidence, passed[0])
     if has_delete and is_younger_by_name(name, passed):
-        return [*gone, *kept, *stale, Cause("mapping", mapped), *sorted_by]
+        return [*gone, *kept, *stale, *deleted_twice(evidence), Cause("mapping", mapped), *sorted_by]
     among = "".join(dict.fromkeys(let_out(evidence, operation, insert) for one in passed[:1] for insert in evidence.recording.inserts.get(one, [])[:1]))
     numbers = Cause("numbers", (NUMBERS_TREE if evidence.kind == TREE else NUMBERS).format(element=name, passed=listed(passed, MOST_TOLD), replica=operation.replica, theirs=theirs, causes=CLOCK[are_own]) + among)
-    told = [cause for cause in [*gone, *kept, numbers, *sorted_by, *stale] if is_possible(cause.name, evidence.kind)]
+    told = [cause for cause in [*gone, *kept, numbers, *sorted_by, *stale, *deleted_twice(evidence)] if is_possible(cause.name, evidence.kind)]
     if not told:
         return [Cause("mapping", mapped)]
     instead = "If that is not the cause" if evidence.kind else "If neither fits your editor" if sorted_by else "If that does not fit your editor"
@@ -290,10 +286,8 @@ def odd_one(evidence: Evidence) -> list:
         return []
     others, operation, receipt = evidence.odd_one
     two, one = [name for name in operation.response if name in evidence.elements]
-    own, came = evidence.on_their_way(receipt), receipt.seen.name
-    told = SEVERAL_ON_WAY if own[1:] else ONE_ON_WAY if own else NONE_ON_WAY
-    return [Cause("odd one", ODD_ONE.format(others=joined(list(map(str, others))), one=one, two=two, odd=operation.replica, operation=at(operation), line=receipt.line, came=came,
-                                            own=told.format(count=counted(len(own)), own=named(own), came=came)))]
+    return [Cause("odd one", ODD_ONE.format(others=joined(list(map(str, others))), one=one, two=two, odd=operation.replica, operation=at(operation), line=receipt.line, came=receipt.seen.name,
+                                            own=on_way_then(evidence, receipt, "It")))]
 
 
 def sorted_alike(evidence: Evidence) -> Cause:
@@ -308,8 +302,9 @@ def sorted_alike(evidence: Evidence) -> Cause:
 def of_refusal(evidence: Evidence, weak: bool) -> list:
     """Concurrent inserts first; then inserts beside deleted elements, then two elements of which one's author had seen the other."""
     if evidence.report["k"] > 2:
-        several = [of_several(evidence), *seen_in_cycle(evidence)]
-        is_let_out = any(cause.told.endswith(LET_OUT.rpartition("}")[2]) for cause in several)
+        pair = pair_in_cycle(evidence)
+        several = [of_several(evidence), *([seen_in_cycle(evidence, *pair)] if pair else [])]
+        is_let_out = pair is not None and let_out(evidence, *pair[:2]) != ""
         return [*lost(evidence), *in_range(evidence), *came_between(evidence), *(several[::-1] if evidence.is_fine_beside_deleted or is_let_out else several), sorted_alike(evidence),
                 Cause(ALONE, WEAK_ALONE_HOLDS)]
     first, then = (evidence.recording.inserts[name][0] for name in evidence.elements)
@@ -350,7 +345,8 @@ def of_refusal(evidence: Evidence, weak: bool) -> list:
     first_of_all = [*turned_by_itself(evidence), *lost(evidence)]
     if alone and evidence.kind == IDENTIFIERS:
         return [*first_of_all, *sorted_by, *alone]
-    return [*first_of_all, *alone, *turned, *hidden_order(evidence, later, old), *([last, *gone] if evidence.is_fine_beside_deleted or let_out(evidence, later, old) else [*gone, last]), *sorted_by, *moved_insert(moved)]
+    return [*first_of_all, *alone, *turned, *hidden_order(evidence, later, old), *([last, *gone] if evidence.is_fine_beside_deleted or let_out(evidence, later, old) else [*gone, last]), *sorted_by,
+            *emptied(evidence), *moved_insert(moved)]
 
 
 def hidden_order(evidence: Evidence, later: Operation, old: Operation) -> list:
@@ -410,15 +406,19 @@ def of_inserts(evidence: Evidence, operation: Operation) -> str:
     return OF_INSERTS[evidence.kind].format(deleted=DELETED_TOO[evidence.kind] if has_delete else "")
 
 
-def seen_in_cycle(evidence: Evidence) -> list:
-    """Of more than two, an insert that its author put beside another element of the cycle, which it had: best the one that came last."""
+def pair_in_cycle(evidence: Evidence) -> tuple | None:
+    """Of more than two, an insert that its author put beside another element of the cycle, which it had, that element's insert, and the operation of
+    the step: best the insert that came last."""
     last = evidence.arrivals[-1].insert if evidence.arrivals else None
     found = []
     for step, operation in evidence.steps if evidence.kind in BY_ELEMENTS else []:
         pair = [evidence.recording.inserts[step[name]][0] for name in ("from", "to")]
         found += [(insert is not last, insert.line, insert, other, operation) for insert, other in (pair, pair[::-1]) if insert.has_seen(other)]
-    return [Cause("seen in a cycle", SEEN_IN_CYCLE.format(**put_beside(evidence, insert, other), numbers=of_inserts(evidence, operation), let_out=let_out(evidence, insert, other)))
-            for *_, insert, other, operation in sorted(found, key=lambda one: one[:2])[:1]]
+    return min(found, key=lambda one: one[:2])[2:] if found else None
+
+
+def seen_in_cycle(evidence: Evidence, insert: Operation, other: Operation, operation: Operation) -> Cause:
+    return Cause("seen in a cycle", SEEN_IN_CYCLE.format(**put_beside(evidence, insert, other), numbers=of_inserts(evidence, operation), let_out=let_out(evidence, insert, other)))
 
 
 def shown_alone(evidence: Evidence) -> list:

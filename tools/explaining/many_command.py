@@ -15,6 +15,7 @@ from .elsewhere import NoParallel, judged_there, needs_parallel
 from .faulty_lines import ENTRIES
 from .files import SIDE, name_beside, shown, trace_written_over, write_file, written_over
 from .found import TRACE, Found, found_in
+from .in_common import in_common
 from .judges import TooMany, judged_here
 from .junit import junit_of
 from .kinds import ABOUT_KIND, NoKind, kind_asked
@@ -187,6 +188,12 @@ def print_unequal(rows: list, asked: argparse.Namespace) -> None:
               f"insert or a delete ({told})")
 
 
+def print_in_common(rows: list) -> None:
+    told = in_common(rows)
+    if told:
+        print("\n".join(["", *told]))
+
+
 def print_errors(rows: list) -> None:
     """First of those that are known to be cut; of a trace that does not read also what is wrong with its line, without the list of all that a
     line may be."""
@@ -239,6 +246,7 @@ def main() -> None:
     if not asked.json:
         print_table(rows, listed, asked.weak)
         print_unequal(rows, asked)
+        print_in_common(rows)
     print_warnings(rows)
     for path, words in found.alike:
         print(f"{NAME}: {shown(path)}: warning: {words}", file=sys.stderr)

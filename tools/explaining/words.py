@@ -435,7 +435,9 @@ def position(evidence: Evidence) -> tuple:
         end = f", past the end, so the last place ({asked})" if operation.at > asked else ""
         lines.append(f"asked for: position {operation.at}{end}; the answer has [{response[asked]}] there")
     if operation.element in response:
-        lines.append(f"found at: position {response.index(operation.element)}")
+        place = response.index(operation.element)
+        is_end = asked >= 0 and place + 1 == len(response) and place - asked > 1  # perhaps no place was found
+        lines.append(f"found at: position {place}{', the end of the list' if is_end else ''}")
     else:
         gone = next(change for change in evidence.recording.deletes[operation.element] if operation.has_seen(change))
         lines.append(f"found at: no position, since {operation.element} was deleted by {at(gone)}, {arrived(evidence.recording, gone, operation)}")
