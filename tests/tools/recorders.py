@@ -2310,7 +2310,7 @@ def check_guide(tally: Tally, program: str, folder: Path) -> None:
     tally.check("guide: the clocks", [clocks.stdout.decode()] == refused, clocks)
     check_any_order(tally, program, shown)
     judged = [block.split("\n\n") for block in traces if block not in printed]
-    tally.check("guide: has traces with verdicts", len(judged) == 4, judged)
+    tally.check("guide: has traces with verdicts", len(judged) == 3, judged)
     tally.check("guide: the window", [trace + "\n" for trace, _ in judged if " view :" in trace] == [window.stdout.decode()], window)
     test = [block for block in shown if block.startswith("report = recording.judge()")]
     failed = ended("failed.py", "\n".join([LOST, *test]))
