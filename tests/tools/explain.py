@@ -789,16 +789,16 @@ STATEMENTS = [
     ("", "In Python, put this {} (the recording has 6 lines then): if recording.lines() == 6: breakpoint()"),
     ("language python\n", "In Python, put this {} (the recording has 6 lines then): if recording.lines() == 6: breakpoint()"),
     ("language javascript\n", "In JavaScript, put this {} (the recording has 6 lines then): if (recording.lines() === 6) debugger"),
-    ("language rust\n", 'In Rust, put this {} (the recording has 6 lines then): if recording.lines() == 6 {{ eprintln!("here") }}, in three lines, with a breakpoint on the second'),
+    ("language rust\n", 'In Rust, put this {} (the recording has 6 lines then): if recording.lines() == 6 {{ eprintln!("here") }} (on three lines, and set a breakpoint on the middle one)'),
     ("language c\n", "In C, put this {} (the recording has 6 lines then): if (domepeeler_lines(recording) == 6) raise(SIGTRAP);"),
     ("language emacs-lisp\n", "In Emacs Lisp, put this {} (the recording has 6 lines then): (when (= (domepeeler-lines recording) 6) (debug))"),
     ("language cobol\n", "In Python, put this {} (the recording has 6 lines then): if recording.lines() == 6: breakpoint()"),
-    ("language rust\nlanguage c\n", 'In Rust, put this {} (the recording has 6 lines then): if recording.lines() == 6 {{ eprintln!("here") }}, in three lines, with a breakpoint on the second'),
+    ("language rust\nlanguage c\n", 'In Rust, put this {} (the recording has 6 lines then): if recording.lines() == 6 {{ eprintln!("here") }} (on three lines, and set a breakpoint on the middle one)'),
 ]
 # By language the statement before the second of two receipts, in lines 5 and 6, that stand together.
 FOR_TWO = {
     "python": "if recording.lines() in (4, 5): breakpoint()", "javascript": "if ([4, 5].includes(recording.lines())) debugger",
-    "rust": 'if [4, 5].contains(&recording.lines()) { eprintln!("here") }, in three lines, with a breakpoint on the second',
+    "rust": 'if [4, 5].contains(&recording.lines()) { eprintln!("here") } (on three lines, and set a breakpoint on the middle one)',
     "c": "if (domepeeler_lines(recording) == 4 || domepeeler_lines(recording) == 5) raise(SIGTRAP);",
     "emacs-lisp": "(when (memq (domepeeler-lines recording) '(4 5)) (debug))",
 }
@@ -1845,6 +1845,35 @@ def first_told(tally: Tally, program: str, folder: str) -> None:
     for kind, server in ("positions", ", and what the server makes of it, if it adjusts positions"), ("neighbours", ""):
         told = explain(program, ["--editor", kind, str(path)]).out.decode()
         tally.check(f"first told: {kind}: a delete that is wrong at two replicas", f"Replica 2 lacks b too, in 2.2 (line 13): so look first at what is sent{server}, and not at replica 1." in told, told)
+    own = "Replica 1 had two changes of its own on their way then: the insert of b by 1.2 (line 6) and the delete of a by 1.3 (line 7). What comes must be adjusted for each of these, one after the other"
+    twice = "0 ins a 0 : a|1 recv 0 1|1 read : a|1 ins b 1 : a b|1 del a : b|0 del a :|1 recv 0 2|1 read :"
+    for name, entries, lacks in ("alone", "", False), ("and a third that has got its delete", "|2 recv 1 3|2 recv 0 2|2 read :", False), ("and a third that hasn't", "|2 recv 1 2|2 recv 0 2|2 read :", True):
+        path.write_text(text_of(3, twice + entries))
+        told = explain(program, ["--editor", "positions", str(path)]).out.decode()
+        tally.check(f"first told: a delete that meets own ones, {name}", "It looks as if 0.2 (line 8), applied at replica 1, deleted b." in told and (own in told) == (not lacks) and (
+            "Replica 2 lacks b too, in 2.1 (line 13): so look first at what is sent" in told) == lacks, told)
+    path.write_text(text_of(3, "0 ins a 0 : a|0 ins b 1 : a b|1 recv 0 2|2 recv 0 2|2 read : a b|1 read : a b|0 del a : b|2 recv 0 3|2 read : a|1 ins c 2 : a b c|1 recv 0 3|1 read : a c"))
+    for kind in "positions", "neighbours":
+        told = explain(program, ["--editor", kind, str(path)]).out.decode()
+        tally.check(f"first told: {kind}: a delete that is wrong at the server too", (
+            "Replica 1 lacks b too, in 1.3 (line 14): so look first at what is sent, and at what replica 2 makes of it, which changes nothing itself: if it is the server, at how" in told) == (
+                kind == "positions") and "and not at replica 2" not in told or kind == "neighbours", told)
+    counted_twice = "Before that, a was deleted at replica 0 more than once: by 0.4 (line 9), and by 1.2, which came in line 10. If the editor counts how many elements it shows"
+    begun = "0 ins a 0 : a|0 ins b 1 : a b|0 ins c 2 : a b c|1 recv 0 3|1 read : a b c|1 del a : b c|0 del a : b c|0 recv 1 2|0 read : b c"
+    for kind in "", "tree", "positions":
+        for what, entries in ("a wrong position", "0 ins d 1 : b c d"), ("a wrong delete", "0 del b : b"):
+            path.write_text(text_of(2, f"{begun}|{entries}"))
+            told = explain(program, [*(["--editor", kind] if kind else []), str(path)]).out.decode()
+            tally.check(f"first told: {kind}: an element that was deleted twice, {what}", (counted_twice in told) == (kind != "positions"), told)
+    path.write_text(text_of(2, "0 ins a 0 : a|1 recv 0 1|0 del a :|1 del a :|0 recv 1 1|1 recv 0 2|0 ins b 0 : b|1 recv 0 3|1 ins c 1 : b c|0 recv 1 2|0 read : c b"))
+    for kind in "positions", "tree":
+        told = explain(program, ["--editor", kind, str(path)]).out.decode()
+        tally.check(f"first told: {kind}: of an order that its author knew, a delete before that became nothing", (
+            "Before that, in line 8, replica 1 received 0.2, which deletes a, though it had deleted that itself, by 1.1 (line 6)" in told) == (kind == "positions"), told)
+    for entries, place in ("0 ins d 1 : a b c d", "position 3, the end of the list"), ("0 ins d 2 : a b c d", "position 3"), ("0 ins d 0 : a b d c", "position 2"):
+        path.write_text(text_of(1, f"0 ins a 0 : a|0 ins b 1 : a b|0 ins c 2 : a b c|{entries}"))
+        told = explain(program, [str(path)]).out.decode()
+        tally.check(f"a place that may be where none was found: {entries}", f"\n  found at: {place}\n" in told, told)
     among = "[b] came to replica 0 with others, and no list was shown between (line 5 to line 6): perhaps out of a waiting room. Look at whether a change that is let out of there does all that others do, such as advancing the clock."
     came = "1 ins a 0 : a|1 ins b 1 : a b|0 recv 1 1|0 recv 1 2|0 read : a b"
     for name, entries in ("a wrong position", f"{came}|0 ins c 1 : a b c"), ("an order that its author knew", f"{came}|0 ins c 1 : a c b|1 recv 0 2|1 read : a b c"), (

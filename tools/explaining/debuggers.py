@@ -11,7 +11,7 @@ MOST_OTHERS = 8  # lines where others arrived that are told
 LANGUAGES = {
     "python": ("Python", "if recording.lines() == {}: breakpoint()"),
     "javascript": ("JavaScript", "if (recording.lines() === {}) debugger"),
-    "rust": ("Rust", 'if recording.lines() == {} {{ eprintln!("here") }}, in three lines, with a breakpoint on the second'),
+    "rust": ("Rust", 'if recording.lines() == {} {{ eprintln!("here") }} (on three lines, and set a breakpoint on the middle one)'),
     "c": ("C", "if (domepeeler_lines(recording) == {}) raise(SIGTRAP);"),
     "emacs-lisp": ("Emacs Lisp", "(when (= (domepeeler-lines recording) {}) (debug))"),
 }
@@ -19,7 +19,7 @@ LANGUAGES = {
 FOR_TWO = {
     "python": "if recording.lines() in ({}, {}): breakpoint()",
     "javascript": "if ([{}, {}].includes(recording.lines())) debugger",
-    "rust": 'if [{}, {}].contains(&recording.lines()) {{ eprintln!("here") }}, in three lines, with a breakpoint on the second',
+    "rust": 'if [{}, {}].contains(&recording.lines()) {{ eprintln!("here") }} (on three lines, and set a breakpoint on the middle one)',
     "c": "if (domepeeler_lines(recording) == {} || domepeeler_lines(recording) == {}) raise(SIGTRAP);",
     "emacs-lisp": "(when (memq (domepeeler-lines recording) '({} {})) (debug))",
 }

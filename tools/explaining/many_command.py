@@ -26,7 +26,8 @@ from .rows import KINDS, NO_VERDICTS, Request, Row, failed
 from .warnings import SAVED, is_first
 
 NAME = "domepeeler-judge-many"
-ABOUT = "Judges all traces below some folders, several at a time, and lists them: first the one that fails in the fewest lines."
+ABOUT = ("Judges all traces below some folders, several at a time, and lists them: first the one that fails in the fewest lines; of failures that look alike the first, and how many more (alike). "
+         "Then it says what failures have in common, beside what passes.")
 STATUSES = ("It ends with status 0 where all are accepted, 1 where all can be read and some are not accepted, and 2 where one can't "
             "be read or is known to be cut (whatever its lines show), or would pass though a call that was to record it was refused, or may be lacking (what a stopped "
             "recorder left, a link that leads nowhere, a trace with another ending), or none has "
@@ -46,7 +47,7 @@ def words_asked() -> argparse.Namespace:
     parser.add_argument("--sshlogin", metavar="HOSTS", help="the machines to judge on, as GNU parallel takes them, which copies "
                         "each trace there; the program must have the same path on each of them")
     parser.add_argument("--json", action="store_true", help="a line for each trace, a JSON object, in place of the table")
-    parser.add_argument("--failing", action="store_true", help="list only the traces that are not accepted; the counts are of all")
+    parser.add_argument("--failing", action="store_true", help="list only the traces that are not accepted; the counts, and what failures have in common, are of all")
     parser.add_argument("--unequal", action="store_true", help="let accepted traces fail if their replicas end with different lists, or "
                         "lack an insert or delete")
     parser.add_argument("--weak", action="store_true", help="the editor promises the weak list specification alone, as one with a server "
