@@ -391,8 +391,8 @@ IN_COMMON = {
     "at one place": ([(4, f"{TIED} b a")], [(4, f"{TIED} a b"), (4, IN_TURN)], [
         "  right before each: an insert came to a place where an element stood that its author had not seen (before 25 % of the lists that are right)",
         "  right before each: a change came whose author had not seen one of the receiver's own (before 25 % of the lists that are right)",
-        "  not needed: deletes (4 fail without)"]),
-    "none that pass": ([(3, BEGUN_ONCE)], [], ["  not needed: changes that don't know of each other (3 fail without)"]),
+        "  not needed: 4 fail without any delete"]),
+    "none that pass": ([(3, BEGUN_ONCE)], [], ["  not needed: 3 fail without changes that don't know of each other"]),
     "too few": ([(2, BEGUN_TWICE)], [(10, RIGHT_ONCE)], []),
     "nothing stands out": ([(3, BEGUN_TWICE)], [(9, RIGHT_TWICE)], []),
 }

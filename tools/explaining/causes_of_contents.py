@@ -82,6 +82,7 @@ LOST_NEIGHBOUR = ("If inserts find their place by a neighbour, look at inserts b
                   "already deleted there, as told above. An editor that throws deleted elements away too early finds no place for it, and loses it or "
                   "holds it back for ever.")
 OWN_BACK_AGAIN = "When {came} came{line}, {back} came back, which replica {replica} had deleted itself by {delete}{lost}. Look at "
+BACK_AGAIN = "When {came} came{line}, {back} came back, which {was} deleted at replica {replica} before, by {delete}, and not shown in {before}{lost}. Look at "
 OWN_ON_WAY = ("When {came} came{line}, replica {replica} had changes of its own on their way, which its author had not seen: {own}.{elsewhere} So {missing} perhaps came well, and one of these "
               "deletes took {it} along{twice}. Look at ")
 SHOWN_ELSEWHERE = " Replica {other} received {same} too, and shows {missing} in {operation}."
@@ -92,7 +93,7 @@ CAME_SINCE = " Since then it received {came}."
 OWN_UNKNOWN = " No other replica shows that it has them."
 SHOWN_AGAIN = ("what applies that: is an element that is marked as deleted shown again, made anew by an insert that arrives a second time, or brought back by a state that "
                "is older than the delete?")
-SPLIT = ("what {new} does there to the elements beside it: is a run (block) of them split, or made anew, without the mark that they are deleted? Else look for a state that is older than "
+SPLIT = ("what {new} there to the elements beside {it}: is a run (block) of them split, or made anew, without the mark that they are deleted? Else look for a state that is older than "
          "the delete and takes the place of the replica's own.")
 OWN_LOST = ", and {missing} {is_} not there: perhaps that delete now hits {it}"
 HEALED = "Later replica {other} reads another list in {after} than in {before}, though it received and changed nothing between. Something that is not recorded did that: "
@@ -393,22 +394,36 @@ def too_much(evidence: Evidence) -> list:
 
 
 def own_back(evidence: Evidence) -> list:
-    """Of a response that shows again what its replica had deleted itself, and had not shown before, where changes have come since."""
+    """Of a response that shows again what was deleted at its replica, and was not shown before, where changes have come since: what it had deleted itself, or, where changes may
+    name elements, what others had."""
     operation = evidence.operations[0]
     before = last_whole(evidence, operation)
     came = evidence.came_between(before, operation) if before is not None else []
-    deletes = [delete for name in evidence.surplus for delete in evidence.recording.deletes.get(name, [])
-               if delete.replica == operation.replica and before is not None and before.has_seen(delete) and name not in before.response]
-    if not came or not deletes or len(deletes) != len(evidence.surplus) or evidence.repeated:
+    gone = [[delete for delete in evidence.recording.deletes.get(name, []) if before is not None and before.has_seen(delete) and name not in before.response] for name in evidence.surplus]
+    if not came or not all(gone) or not gone or evidence.repeated:
+        return []
+    deletes = [next((delete for delete in some if delete.replica == operation.replica), some[0]) for some in gone]
+    is_own = all(delete.replica == operation.replica for delete in deletes)
+    if not is_own and evidence.kind == POSITIONS:
         return []
     is_one = not evidence.missing[1:]
     arrival = evidence.recording.arrival(came[0], operation.replica) if not came[1:] else None
     line = f" in line {arrival.line}" if arrival is not None else ""
-    new = [change for change in came if change.kind == "ins" and change.element not in evidence.surplus]
-    look = OWN_ADJUSTED if is_possible("positions", evidence.kind) else SPLIT.format(new=f"the insert of {new[0].element}" if len(came) == 1 else "what came") if new else SHOWN_AGAIN
     lost = OWN_LOST.format(missing=listed(evidence.missing, MOST_TOLD), is_="is" if is_one else "are", it="it" if is_one else "one of them") if evidence.missing else ""
-    return [Cause("own back", OWN_BACK_AGAIN.format(came=named(came), back=listed(evidence.surplus, MOST_TOLD), replica=operation.replica,
-                                                    delete=listed(list(map(at, deletes)), MOST_TOLD), lost=lost, line=line) + look)]
+    words = OWN_BACK_AGAIN if is_own else BACK_AGAIN
+    return [Cause("own back", words.format(came=named(came), back=listed(evidence.surplus, MOST_TOLD), replica=operation.replica, was="were" if evidence.surplus[1:] else "was", before=at(before),
+                                           delete=listed(list(dict.fromkeys(map(at, deletes))), MOST_TOLD), lost=lost, line=line) + look_of_back(evidence, came, is_own))]
+
+
+def look_of_back(evidence: Evidence, came: list, is_own: bool) -> str:
+    """Where to look when an element came back: by the kind of the editor, and by whether what came changes others."""
+    if is_own and is_possible("positions", evidence.kind):
+        return OWN_ADJUSTED
+    others = [change for change in came if change.element not in evidence.surplus]
+    if not others:
+        return SHOWN_AGAIN
+    one = f"the {'insert' if others[0].kind == 'ins' else 'delete'} of {others[0].element} does"
+    return SPLIT.format(new="each of these changes does" if others[1:] else one, it="it")
 
 
 def own_on_way(evidence: Evidence) -> list:

@@ -2,6 +2,7 @@
 counts over all sessions; causes.py reads one. Of a failing session the lines count up to the one with which it fails."""
 from __future__ import annotations
 
+from bisect import bisect_left
 from itertools import accumulate
 from math import log
 from typing import NamedTuple
@@ -12,7 +13,7 @@ from .rows import Row
 
 # What came to a replica before it showed a list, or what it did then.
 TWICE, OWN, SEVERAL_OWN = "deleted twice", "own on way", "several on way"
-ONE_PLACE, BESIDE, TOGETHER, THIRD = "one place", "beside deleted", "several at once", "third"
+ONE_PLACE, BESIDE, NAMES_GONE, TOGETHER, AFTER_SEVERAL = "one place", "beside deleted", "names a deleted one", "several at once", "after several"
 OWN_BESIDE, TYPED_ON, BEFORE_OTHERS, BEHIND_OTHERS = "own beside deleted", "typed on", "before another's", "behind another's"
 AT_FRONT, AT_END, FIRST_GONE, LAST_GONE = "at the front", "at the end", "first deleted", "last deleted"
 UNSEEN = {(kind, other): f"{kind}, {other}" for kind in ("ins", "del") for other in ("ins", "del")}  # by what comes, and what its author had not seen
@@ -22,8 +23,9 @@ IN_WORDS = {
     SEVERAL_OWN: "a change came whose author had not seen several of the receiver's own",
     ONE_PLACE: "an insert came to a place where an element stood that its author had not seen",
     BESIDE: "an insert came whose neighbour was deleted there",
+    NAMES_GONE: "a change came that deletes, or stands beside, an element which was deleted there",
     TOGETHER: "several changes came at once",
-    THIRD: "a change came whose author had not seen one of a third replica",
+    AFTER_SEVERAL: "a change came that its author made when several of others had come since its own last",
     UNSEEN["ins", "ins"]: "an insert came whose author had not seen an insert that was there",
     UNSEEN["ins", "del"]: "an insert came whose author had not seen a delete that was there",
     UNSEEN["del", "ins"]: "a delete came whose author had not seen an insert that was there",
@@ -37,7 +39,7 @@ IN_WORDS = {
     FIRST_GONE: "a replica deleted the first element of its list",
     LAST_GONE: "a replica deleted the last element of its list",
 }
-GENERAL = {ONE_PLACE: {UNSEEN["ins", "ins"]}, SEVERAL_OWN: {OWN}, TWICE: {UNSEEN["del", "del"]}}  # by a situation, what holds wherever it does
+GENERAL = {ONE_PLACE: {UNSEEN["ins", "ins"]}, SEVERAL_OWN: {OWN}, TWICE: {UNSEEN["del", "del"], NAMES_GONE}, BESIDE: {NAMES_GONE}}  # by a situation, what holds wherever it does
 
 FEWEST = 3  # failing sessions of which something is said, and passing ones
 FEWEST_LISTS = 20  # that are right, likewise
@@ -78,6 +80,7 @@ class Looking:
         self.with_deleted = [[] for _ in range(count)]  # what each replica shows and has shown, in this order
         self.came = [0] * count  # changes since its last list
         self.last_insert = [""] * count
+        self.after_several = {change.key for stream, receipts in zip(recording.streams, recording.receipts) for change in after_several(stream, receipts)}
         self.counts = {kind: [list(accumulate((one.kind == kind for one in stream), initial=0)) for stream in recording.streams] for kind in ("ins", "del")}
 
     def session(self, last_line: int | None) -> Session:
@@ -101,7 +104,8 @@ class Looking:
         news = [change for author, stream in enumerate(self.recording.streams) if author != replica
                 for change in stream[has[author]:receipt.seen.clock[author]] if change.element]
         for change in news:
-            self.since[replica] |= self.of_change(change, replica)
+            found = self.of_change(change, replica)
+            self.since[replica] |= found | ({NAMES_GONE} if found & {TWICE, BESIDE} else set())
         self.came[replica] += len(news)
         self.since[replica] |= {TOGETHER} if self.came[replica] > 1 else set()
         self.clocks[replica] = [max(pair) for pair in zip(has, receipt.seen.clock)]
@@ -117,7 +121,7 @@ class Looking:
         own = sum(self.unseen(kind, replica, change, has) for kind in ("ins", "del"))
         found |= {OWN} if own else set()
         found |= {SEVERAL_OWN} if own > 1 else set()
-        found |= {THIRD} if any(self.unseen(kind, author, change, has) for kind in ("ins", "del") for author in authors if author != replica) else set()
+        found |= {AFTER_SEVERAL} if change.key in self.after_several else set()
         if change.kind == "del":
             is_twice = any(other is not change and has[other.replica] >= other.n for other in self.recording.deletes[change.element])
             return found | ({TWICE} if is_twice else set())
@@ -171,6 +175,15 @@ class Looking:
             before = name
 
 
+def after_several(stream: list, receipts: list) -> list:
+    """The changes of a replica that it made when several receipts had come since its change before."""
+    found, before, places = [], 0, [receipt.before for receipt in receipts]
+    for change in (operation for operation in stream if operation.element):
+        found += [change] if bisect_left(places, change.n) - bisect_left(places, before) > 1 else []
+        before = change.n
+    return found
+
+
 def weight(share: float, other: float) -> float:
     """By how much a share stands out above another, 0 where it does not: the information of the one beside the other."""
     if share <= other:
@@ -202,9 +215,9 @@ def standing_out(failing: list, passing: list) -> list:
 
 def unneeded(failing: list) -> list:
     """What a failure does not need, with how many fail without it."""
-    without = {"deletes": sum(not session.has_delete for session in failing),
+    without = {"any delete": sum(not session.has_delete for session in failing),
                "changes that don't know of each other": sum(not session.before.intersection(UNSEEN.values()) for session in failing)}
-    return [f"{what} ({count} fail without)" for what, count in without.items() if count >= max(UNNEEDED_FROM * len(failing), 2)]
+    return [f"{count} fail without {what}" for what, count in without.items() if count >= max(UNNEEDED_FROM * len(failing), 2)]
 
 
 def in_common(rows: list) -> list:

@@ -290,6 +290,7 @@ def contents(evidence: Evidence) -> tuple:
         f"answered: {answer(evidence, operation)}",
         expected(evidence, operation),
         since(evidence, operation),
+        *brought(evidence, operation),
     ])]
     for title, names in ("Missing", evidence.missing), ("Extra", evidence.surplus), ("Named more than once", evidence.repeated):
         if names:
@@ -335,6 +336,22 @@ def since(evidence: Evidence, operation: Operation, still: str = "is right") -> 
         return f"before it: replica {operation.replica} did nothing, and {came}"
     list_before = marked(before[0].response, set(evidence.elements) if evidence.report["verdict"] == "contents" else set())
     return f"before it: replica {operation.replica}'s {at(before[0])} answered {list_before}, which {still}; since then it {came}"
+
+
+def brought(evidence: Evidence, operation: Operation) -> list:
+    """The changes that came to the replica since its operation before, and which of them deletes what was deleted there."""
+    before, receipts = evidence.before(operation)
+    came = [change for change in evidence.recording.changes() if change.replica != operation.replica and operation.has_seen(change)
+            and not (before and before[0].has_seen(change))] if receipts else []
+    told = [did_there(evidence, change, operation.replica) for change in came[:MOST_ARRIVED]]
+    more = f" and {len(came) - MOST_ARRIVED} more" if len(came) > MOST_ARRIVED else ""
+    return [f"that brought: {', '.join(told)}{more}"] if told else []
+
+
+def did_there(evidence: Evidence, change: Operation, replica: int) -> str:
+    arrival = evidence.recording.arrival(change, replica)
+    gone = evidence.recording.change_at([one for one in evidence.recording.deletes[change.element] if one is not change], arrival) if change.kind == "del" and arrival else None
+    return f"{change.name} {'inserts' if change.kind == 'ins' else 'deletes'} {change.element}" + (f" (deleted there already, by {at(gone)})" if gone else "")
 
 
 def facts(evidence: Evidence, name: str, operation: Operation) -> list:
