@@ -1870,6 +1870,22 @@ def first_told(tally: Tally, program: str, folder: str) -> None:
         told = explain(program, ["--editor", kind, str(path)]).out.decode()
         tally.check(f"first told: {kind}: of an order that its author knew, a delete before that became nothing", (
             "Before that, in line 8, replica 1 received 0.2, which deletes a, though it had deleted that itself, by 1.1 (line 6)" in told) == (kind == "positions"), told)
+    back = "0 ins a 0 : a|0 ins b 1 : a b|0 ins c 2 : a b c|1 recv 0 3|1 read : a b c|0 del b : a c|1 recv 0 4|1 read : a c|1 del a : c|2 recv 0 3|2 read : a b c"
+    for what, entries in ("an insert", "2 ins d 2 : a b d c"), ("a delete", "2 del a : b c"), ("several", "2 del a : b c|2 ins d 1 : b d c"):
+        shown = "b d c" if "ins" in entries else "b c"
+        path.write_text(text_of(3, f"{back}|{entries}|1 recv 2 {2 + (what == 'several')}|1 read : {shown}"))
+        line = 16 if what == "several" else 15
+        begins = {"an insert": "When the insert of d by 2.2 (line 14) came in line 15, b came back", "a delete": "When the delete of a by 2.2 (line 14) came in line 15, b came back",
+                  "several": "When the delete of a by 2.2 (line 14) and the insert of d by 2.3 (line 15) came, b came back"}[what]
+        does = {"an insert": "the insert of d does", "a delete": "the delete of a does", "several": "each of these changes does"}[what]
+        words = (f"{begins}, which was deleted at replica 1 before, by 0.4 (line 8), and not shown in 1.3 (line 11). Look at what {does} there to the elements beside it: is a run (block) of them split, or made "
+                 "anew, without the mark that they are deleted?")
+        brought = {"an insert": "2.2 inserts d", "a delete": "2.2 deletes a (deleted there already, by 1.3 (line 11))",
+                   "several": "2.2 deletes a (deleted there already, by 1.3 (line 11)), 2.3 inserts d"}[what]
+        for kind in "", "neighbours", "positions":
+            told = explain(program, [*(["--editor", kind] if kind else []), str(path)]).out.decode()
+            tally.check(f"first told: {kind}: what another had deleted came back, by {what}", (words in told) == (kind != "positions") and (
+                f"since then it received 2.{2 + (what == 'several')} (line {line})\n  that brought: {brought}\n") in told, told)
     for entries, place in ("0 ins d 1 : a b c d", "position 3, the end of the list"), ("0 ins d 2 : a b c d", "position 3"), ("0 ins d 0 : a b d c", "position 2"):
         path.write_text(text_of(1, f"0 ins a 0 : a|0 ins b 1 : a b|0 ins c 2 : a b c|{entries}"))
         told = explain(program, [str(path)]).out.decode()
