@@ -116,8 +116,8 @@ WORDS = [
      "Where to look|Nothing came between 0.2 (line 4) and this, so look at the local insert itself: what it takes from the list or puts there, and which ids it puts into the change that "
      "it sends." + stop(5, "replica 0 inserts c")),
     ("a delete where the order of two at its place differs already", 2, "0 ins a 0 : a|0 ins w 1 : a w|1 ins c 0 : c|1 recv 0 1|1 read : a c|1 del c : a|0 recv 1 1|0 recv 1 3|0 read : c a",
-     "Where to look|c and a were inserted at one place without knowing of each other, and are shown in two orders already: c before a in 0.3 (line 11), a before c in 1.2 (line 7). Look "
-     "first at the order of concurrent inserts: by another order a later position hits another element.|It looks as if 1.3 (line 8), applied at replica 0, deleted w instead of c: look at "
+     "Where to look|c and a were inserted at one place without knowing of each other, and are shown in two orders: c before a in 0.3 (line 11), a before c in 1.2 (line 7). Look "
+     "first at the order of concurrent inserts, by a rule that never ties (as the replicas' numbers, and not the letters): by another order a later position hits another element.|It looks as if 1.3 (line 8), applied at replica 0, deleted w instead of c: look at "
      "how a replica that applies a delete finds the element, and at whether the recorder writes the name of the element that was deleted." + stop(9, "replica 0 applies 1.1")),
     ("an insert beside a deleted element, where others before it went well", 2, "0 ins a 0 : a|0 ins b 1 : a b|0 ins c 2 : a b c|0 ins z 3 : a b c z|1 recv 0 4|1 read : a b c z|"
      "1 del a : b c z|0 ins p 1 : a p b c z|1 recv 0 5|1 read : p b c z|1 del b : p c z|0 ins q 3 : a p b q c z|1 recv 0 6|1 read : p q c z|1 del c : p q z|"
@@ -1886,6 +1886,15 @@ def first_told(tally: Tally, program: str, folder: str) -> None:
             told = explain(program, [*(["--editor", kind] if kind else []), str(path)]).out.decode()
             tally.check(f"first told: {kind}: what another had deleted came back, by {what}", (words in told) == (kind != "positions") and (
                 f"since then it received 2.{2 + (what == 'several')} (line {line})\n  that brought: {brought}\n") in told, told)
+    rivals = "b and a were inserted at one place without knowing of each other: look also at which of them comes first, by a rule that never ties (as the replicas' numbers, and not the letters)"
+    for what, entries, is_rival in (
+            ("into nothing", "0 ins a 0 : a|1 ins b 0 : b|0 del a :|1 recv 0 1|1 read : b a|1 recv 0 2|1 read : a", True),
+            ("beside what the other had not", "0 ins x 0 : x|0 ins a 1 : x a|1 ins c 0 : c|1 ins b 0 : b c|0 del a : x|1 recv 0 2|1 read : x b a c|1 recv 0 3|1 read : x a c", True),
+            ("beside what both had", "0 ins x 0 : x|1 recv 0 1|1 read : x|1 ins b 0 : b x|0 ins a 1 : x a|0 del a : x|1 recv 0 2|1 read : b x a|1 recv 0 3|1 read : x a", False)):
+        path.write_text(text_of(2, entries))
+        for kind in "positions", "tree":
+            told = explain(program, ["--editor", kind, str(path)]).out.decode()
+            tally.check(f"first told: {kind}: a delete of one of two at a place, {what}", "deleted b instead of a" in told and (rivals in told) == (is_rival and kind == "positions"), told)
     for entries, place in ("0 ins d 1 : a b c d", "position 3, the end of the list"), ("0 ins d 2 : a b c d", "position 3"), ("0 ins d 0 : a b d c", "position 2"):
         path.write_text(text_of(1, f"0 ins a 0 : a|0 ins b 1 : a b|0 ins c 2 : a b c|{entries}"))
         told = explain(program, [str(path)]).out.decode()

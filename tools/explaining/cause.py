@@ -58,10 +58,11 @@ def lost(evidence: Evidence) -> list:
         for change, replica in found[:1]]
 
 
-def shown_in_orders(evidence: Evidence, one: str, two: str) -> tuple:
-    """The first responses that show two elements in the one order, and in the other; none where there is no such."""
+def shown_in_orders(evidence: Evidence, one: str, two: str, of_all: bool = False) -> tuple:
+    """The first responses that show two elements in the one order, and in the other; none where there is no such. They stand up to the last line that is
+    explained, or anywhere."""
     found = {}
-    for operation in evidence.shown_up_to_last:
+    for operation in sorted((one for stream in evidence.recording.streams for one in stream), key=lambda one: one.line) if of_all else evidence.shown_up_to_last:
         names = operation.response
         if one in names and two in names:
             found.setdefault(names.index(one) < names.index(two), operation)

@@ -50,10 +50,12 @@ WRONG_DELETE = ("It looks as if {delete}, applied at replica {replica}, deleted 
                 "delete finds the element, and at whether the recorder writes the name of the element that was deleted.")
 WRONG_LOCAL_DELETE = ("It looks as if {delete} deleted {missing} instead of {surplus}: look at how a local delete finds the element, and at whether the recorder writes the name "
                       "of the element that was deleted.")
+RIVALS = (" {missing} and {element} were inserted at one place without knowing of each other: look also at which of them comes first, by a rule that never ties (as the replicas' numbers, and not the letters) and is "
+          "the same on both sides; else the delete hits the other one.")
 WRONG_POSITION = ("It looks as if {delete}, applied at replica {replica}, deleted {missing} instead of {surplus}: look at how its position is adjusted there, also for changes "
                   "of the replica's own that its author had not seen; and at whether the recorder writes the name of the element that was deleted.")
-TIED = ("{one} and {two} were inserted at one place without knowing of each other, and are shown in two orders already: {one} before {two} in {before}, {two} before {one} in {after}. "
-        "Look first at the order of concurrent inserts: by another order a later position hits another element.")
+TIED = ("{one} and {two} were inserted at one place without knowing of each other, and are shown in two orders: {one} before {two} in {before}, {two} before {one} in {after}. "
+        "Look first at the order of concurrent inserts, by a rule that never ties (as the replicas' numbers, and not the letters): by another order a later position hits another element.")
 MISNAMED = ("{deletes} delete{s} {named}; but {wrong}, while {missing}. Look at which ids a local delete puts into the change that it sends{several}.")
 NOT_SHOWN = "{element} does not stand in {before}{unknown}"
 SEVERAL_IDS = ": of several elements each has its own, which need not follow from the one before"
@@ -299,8 +301,8 @@ def moved_delete(evidence: Evidence, delete: Operation) -> list:
     others = [other.element for insert in evidence.recording.inserts.get(delete.element, [])[:1]
               for other in put_there_at_once(evidence.recording, insert, receipt)]
     tied = [Cause("concurrent", TIED.format(one=delete.element, two=other, before=at(orders[0]), after=at(orders[1])))
-            for other in others[:MOST_TOLD] if all(orders := shown_in_orders(evidence, delete.element, other))]
-    others = [other for other in others if not tied and not is_agreed(evidence, delete.element, other, {delete.replica, receipt.replica})]
+            for other in others[:MOST_TOLD] if all(orders := shown_in_orders(evidence, delete.element, other, other in evidence.missing))]
+    others = [other for other in sorted(others, key=lambda other: other not in evidence.missing) if not tied and not is_agreed(evidence, delete.element, other, {delete.replica, receipt.replica})]
     back = MOVED_BEFORE.format(replica=receipt.replica) if met_before(evidence.recording, delete, receipt) else ""
     return [*tied[:1], Cause("positions", MOVED_DELETE.format(delete=delete.name, changes=named(unknown), back=back, tie=at_once(delete.element, others) if others else ""))]
 
@@ -327,9 +329,17 @@ def wrong_delete(evidence: Evidence, operation: Operation) -> list:
     if is_deleted or not news or is_new or not any(map(operation.has_seen, inserts)):
         return []
     look = WRONG_LOCAL_DELETE if news[0] is operation else WRONG_POSITION if evidence.kind == POSITIONS else WRONG_DELETE
-    told = look.format(delete=at(news[0]), replica=operation.replica, missing=missing, surplus=surplus) + where_it_came(evidence, news[0], [missing])
+    told = look.format(delete=at(news[0]), replica=operation.replica, missing=missing, surplus=surplus) + rivals(evidence, news[0], missing) + where_it_came(evidence, news[0], [missing])
     counted_twice = deleted_twice(evidence) if news[0] is operation else []
     return tied_first([Cause("wrong delete", told), *counted_twice, *moved_delete(evidence, news[0])])
+
+
+def rivals(evidence: Evidence, delete: Operation, missing: str) -> str:
+    """Where changes carry positions, that a delete seems to have hit what was inserted at the place of its own element, neither author knowing of the other's."""
+    receipt = evidence.recording.arrival(delete, evidence.operations[0].replica) if delete.replica != evidence.operations[0].replica else None
+    inserts = evidence.recording.inserts.get(delete.element, [])[:1] if evidence.kind == POSITIONS and receipt else []
+    found = [other.element for insert in inserts for other in put_there_at_once(evidence.recording, insert, receipt)]
+    return RIVALS.format(missing=missing, element=delete.element) if missing in found else ""
 
 
 def lacked_elsewhere(evidence: Evidence, delete: Operation, missing: list) -> str:

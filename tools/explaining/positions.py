@@ -66,10 +66,21 @@ def list_of(recording: Recording, change: Operation) -> list:
 
 
 def put_there_at_once(recording: Recording, insert: Operation, receipt: Receipt) -> list:
-    """The inserts that the receipt's replica had before it, which were made at the place of this one, neither author knowing of the other's."""
-    had, own = recording.clock_before(receipt), neighbours(insert)
-    return [other for inserts in recording.inserts.values() for other in inserts
-            if had[other.replica] >= other.n and not is_known(insert, other) and are_alike(own, neighbours(other))]
+    """The inserts that the receipt's replica had before it, which were made at the place of this one, neither author knowing of the other's; those
+    first that stand nearest to it there."""
+    had, own, shown = recording.clock_before(receipt), neighbours(insert), recording.shown_before(receipt)
+    places = {name: place for place, name in enumerate(shown)}
+    found = [other for inserts in recording.inserts.values() for other in inserts if had[other.replica] >= other.n and not is_known(insert, other) and (
+        are_alike(own, neighbours(other)) or known_neighbours(recording, insert, other) == known_neighbours(recording, other, insert))]
+    own_place = places.get(insert.element, 0)
+    return sorted(found, key=lambda other: (other.element not in places, abs(places.get(other.element, 0) - own_place) if insert.element in places else 0))
+
+
+def known_neighbours(recording: Recording, insert: Operation, other: Operation) -> tuple:
+    """The nearest elements on both sides of an insert's own, in its response, that the author of another had too: none towards an end of the list."""
+    shown = insert.response
+    place = shown.index(insert.element) if insert.element in shown else len(shown)
+    return tuple(next((name for name in side if any(map(other.has_seen, recording.inserts.get(name, ())))), None) for side in (shown[:place][::-1], shown[place + 1:]))
 
 
 def are_put_at_once(insert: Operation, other: Operation) -> bool:
