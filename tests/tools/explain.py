@@ -1834,6 +1834,7 @@ def first_told(tally: Tally, program: str, folder: str) -> None:
         told = explain(program, ["--editor", kind, str(path)]).out.decode()
         tally.check(f"first told: {kind}: an own place that its author alone shows", ("them: a local insert must find its place by the same search as an incoming one. Replicas 0 and 2, to which it came, show it "
                     "elsewhere than replica 1 alone, which inserted it: so begin with this." in told) == (kind == "neighbours"), told)
+        tally.check(f"first told: {kind}: an own place that its author alone shows: the debugger", ("\n  stop before line 9 of the trace, where replica 1 inserts c" in told) == (kind == "neighbours"), told)
     path.write_text(text_of(3, "0 ins a 0 : a|0 ins b 1 : a b|1 recv 0 2|2 recv 0 2|1 read : a b|2 read : a b|1 del a : b|0 del b : a|1 recv 0 3|1 read :|2 recv 0 3|2 read : a|0 recv 1 2|0 read : a|"
                                "2 recv 1 2|2 read : a"))
     for kind in "positions", "neighbours":

@@ -29,7 +29,7 @@ BEGINS, READS = "where your code has the editor apply a change, local or remote"
 
 def stop_of(evidence: Evidence) -> tuple:
     """The entry before which to stop, and the others to try if that one goes right: of a refusal where its elements arrived, the last one
-    first, else at its last response; of wrong contents where a second delete or what overtook a change arrived, or at what was received
+    first, or at the insert that its author alone places so, else at its last response; of wrong contents where a second delete or what overtook a change arrived, or at what was received
     first since the replica's operation before, if anything was; else at the operation that is named, a read's also at what came last. Of a wrong
     position, at the insert, and at what came beside the replica's last one. None of another verdict."""
     if evidence.report["verdict"] not in ("refused", "contents", "position"):
@@ -39,7 +39,7 @@ def stop_of(evidence: Evidence) -> tuple:
                    if not evidence.recording.is_delivered(arrival.receipt.line)}
         *others, entry = list(arrived.values()) or [max(evidence.operations, key=lambda operation: operation.line)]
         odd = evidence.odd_one[-1] if evidence.kind == POSITIONS and evidence.odd_one else None
-        first = shown_alone(evidence) or reordering(evidence) or odd or came_between(evidence)
+        first = shown_alone(evidence) or reordering(evidence) or odd or came_between(evidence) or placed_alone(evidence)
         arrivals = [entry, *others[::-1]] if arrived else []
         if evidence.shown_alone and evidence.shown_alone[2].line not in arrived:
             arrivals.insert(0, evidence.shown_alone[2])
@@ -72,6 +72,12 @@ def shown_alone(evidence: Evidence) -> Operation | Receipt | None:
         return None
     insert, _, receipt, _ = evidence.shown_alone
     return receipt if evidence.kind == POSITIONS else insert
+
+
+def placed_alone(evidence: Evidence) -> Operation | None:
+    """Of an insert where elements had been deleted, which its author alone shows in its order: the insert."""
+    odd = evidence.odd_one if evidence.kind in BY_ELEMENTS and evidence.own_place else None
+    return evidence.own_place[0] if odd and odd[1].replica == evidence.own_place[0].replica else None
 
 
 def reordering(evidence: Evidence) -> Operation | Receipt | None:
