@@ -15,6 +15,8 @@ MOST_EMPTIED = 3  # deletes that became nothing before the fault: where more did
 MOST_MET = 6  # changes for which a position was perhaps not adjusted
 LOST = ("Look first at whether {changes} {were} lost on {their} way to replica {replica}, or overtaken: no receipt there names {them}, though {others}. "
         "In an editor that sends positions, later changes then land in the wrong place.")
+NEVER_SENT = ("Look first at whether replica {author} has sent {changes} at all: no receipt anywhere names {them}, but for those of `delivered`. In an editor that sends positions, later changes then land in the "
+              "wrong place.")
 OTHERS_HAVE = "all other changes of replica {author} have one"
 ELSEWHERE_ONE = {True: "at another replica it has one", False: "at other replicas they have some"}
 PUT_AT_ONCE = {True: " At the place of {element} also {others} was inserted, and neither author had the other's insert. Look also at which of them comes first.",
@@ -51,11 +53,14 @@ def astray(evidence: Evidence) -> list:
 def lost(evidence: Evidence) -> list:
     found = astray(evidence)
     changes = [change for change, replica in found if (change.replica, replica) == (found[0][0].replica, found[0][1])]
-    is_one = len(changes) == 1
-    return [Cause("lost", LOST.format(
-        replica=replica, their="its" if is_one else "their", them="it" if is_one else "them", **changes_told(changes),
-        others=OTHERS_HAVE.format(author=change.replica) if evidence.recording.are_named(change.replica, changes, replica) else ELSEWHERE_ONE[is_one]))
-        for change, replica in found[:1]]
+    is_one, recording = len(changes) == 1, evidence.recording
+    for change, replica in found[:1]:
+        have_others = recording.are_named(change.replica, changes, replica)
+        is_sent = have_others or any(one.key in recording.lines_named(other) for one in changes for other in range(recording.replicas) if other != change.replica)
+        return [Cause("lost", (LOST if is_sent else NEVER_SENT).format(
+            replica=replica, author=change.replica, their="its" if is_one else "their", them="it" if is_one else "them", **changes_told(changes),
+            others=OTHERS_HAVE.format(author=change.replica) if have_others else ELSEWHERE_ONE[is_one]))]
+    return []
 
 
 def shown_in_orders(evidence: Evidence, one: str, two: str, of_all: bool = False) -> tuple:
