@@ -1896,6 +1896,20 @@ def first_told(tally: Tally, program: str, folder: str) -> None:
         for kind in "positions", "tree":
             told = explain(program, ["--editor", kind, str(path)]).out.decode()
             tally.check(f"first told: {kind}: a delete of one of two at a place, {what}", "deleted b instead of a" in told and (rivals in told) == (is_rival and kind == "positions"), told)
+    unseen = "The author of 0.3 and 0.4 had not seen c: what deletes a range, by elements or positions, must leave out what its author had not seen."
+    for what, entries in ("had not seen", ""), ("had seen", "|0 recv 1 2|0 read : a c b"):
+        path.write_text(text_of(2, f"0 ins a 0 : a|0 ins b 1 : a b|1 recv 0 2|1 read : a b|1 ins c 1 : a c b{entries}|0 del a : {'c b' if entries else 'b'}|0 del b :{' c' if entries else ''}|"
+                                   f"1 recv 0 {5 if entries else 4}|1 read :"))
+        told = explain(program, [str(path)]).out.decode()
+        tally.check(f"first told: a range whose deletes took what their author {what}", "deleted c along with a and b" in told and (unseen in told) == (not entries), told)
+    path.write_text(text_of(3, "0 ins a 0 : a|2 recv 0 1|2 read : a|1 recv 0 1|1 read : a|0 ins b 1 : a b|1 ins c 1 : a c|2 recv 1 2|2 read : a c|0 recv 1 2|0 read : a b c|1 del a : c|2 recv 1 3|2 read : a|"
+                               "1 recv 0 2|1 read : c|2 recv 0 2|2 read : a"))
+    sent = "Look first at whether replica 0 has sent 0.2 (line 8) at all: no receipt anywhere names it, but for those of `delivered`."
+    for beside, is_told in ("20\ndelivered 17 20\n", True), ("20\n", False):
+        Path(f"{path}.lines").write_text(beside)
+        told = explain(program, ["--editor", "positions", str(path)]).out.decode()
+        tally.check(f"first told: a change that was never sent, {is_told}", (sent in told) == is_told, told)
+    Path(f"{path}.lines").unlink()
     for entries, place in ("0 ins d 1 : a b c d", "position 3, the end of the list"), ("0 ins d 2 : a b c d", "position 3"), ("0 ins d 0 : a b d c", "position 2"):
         path.write_text(text_of(1, f"0 ins a 0 : a|0 ins b 1 : a b|0 ins c 2 : a b c|{entries}"))
         told = explain(program, [str(path)]).out.decode()

@@ -55,11 +55,11 @@ def lost(evidence: Evidence) -> list:
     changes = [change for change, replica in found if (change.replica, replica) == (found[0][0].replica, found[0][1])]
     is_one, recording = len(changes) == 1, evidence.recording
     for change, replica in found[:1]:
-        have_others = recording.are_named(change.replica, changes, replica)
-        is_sent = have_others or any(one.key in recording.lines_named(other) for one in changes for other in range(recording.replicas) if other != change.replica)
+        others = [other for other in range(recording.replicas) if other != change.replica]
+        is_sent = any(one.key in recording.lines_named(other) for one in changes for other in others) or not any(recording.own_receipt(one, other) for one in changes for other in others)
         return [Cause("lost", (LOST if is_sent else NEVER_SENT).format(
             replica=replica, author=change.replica, their="its" if is_one else "their", them="it" if is_one else "them", **changes_told(changes),
-            others=OTHERS_HAVE.format(author=change.replica) if have_others else ELSEWHERE_ONE[is_one]))]
+            others=OTHERS_HAVE.format(author=change.replica) if recording.are_named(change.replica, changes, replica) else ELSEWHERE_ONE[is_one]))]
     return []
 
 

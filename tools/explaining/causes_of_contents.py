@@ -69,6 +69,7 @@ REPLACED = ("Replica {replica} showed {missing} in {before}; since then it only 
 VANISHED = "Replica {replica} answered what is right in {before}, and has received nothing since. Look at what replica {replica} itself does between the two{unrecorded}"
 TOO_MUCH = ("It looks as if {deletes}{applied} deleted {missing} along with {theirs}: {missing} stood there in {before}, and no delete of {it} has come there. Look at where "
             "the replica begins to delete there, and at how many elements it deletes.")
+NOT_SEEN = " The author of {changes} had not seen {missing}: what deletes a range, by elements or positions, must leave out what its author had not seen."
 SECOND_DELETE = {
     False: "It looks as if {again}{applied} deleted {missing} instead of {element}: look at how a replica that applies a delete finds the element. {element} was already deleted "
            "there, by {first}, so look also at what the editor does with a delete whose element is gone.",
@@ -398,9 +399,11 @@ def too_much(evidence: Evidence) -> list:
     if not deletes or unseen:
         return []
     applied = "" if deletes == [operation] else f", applied at replica {operation.replica},"
-    return [Cause("too much", TOO_MUCH.format(deletes=listed(list(map(at, deletes)), MOST_TOLD), applied=applied, missing=listed(evidence.missing, MOST_TOLD),
-                                              before=at(before), it="them" if evidence.missing[1:] else "it",
-                                              theirs=listed(list(dict.fromkeys(delete.element for delete in deletes)), MOST_TOLD)))]
+    told = TOO_MUCH.format(deletes=listed(list(map(at, deletes)), MOST_TOLD), applied=applied, missing=listed(evidence.missing, MOST_TOLD),
+                           before=at(before), it="them" if evidence.missing[1:] else "it", theirs=listed(list(dict.fromkeys(delete.element for delete in deletes)), MOST_TOLD))
+    inserts = [insert for name in evidence.missing for insert in evidence.recording.inserts[name]]
+    is_unseen = not any(delete.has_seen(insert) for delete in deletes for insert in inserts)
+    return [Cause("too much", told + (NOT_SEEN.format(changes=listed([delete.name for delete in deletes], MOST_TOLD), missing=listed(evidence.missing, MOST_TOLD)) if is_unseen else ""))]
 
 
 def own_back(evidence: Evidence) -> list:
