@@ -232,7 +232,7 @@ def in_common(rows: list) -> list:
     for one in standing_out(failing, passing):
         which = "each" if one.count == len(failing) else f"{one.count} of them"
         lines.append(f"  {'right before' if one.is_right_before else 'before'} {which}: {IN_WORDS[one.name]} ({one.others})")
-    without = unneeded(failing)
+    without = unneeded(failing) if lines else []
     lines += [f"  not needed: {', '.join(without)}"] if without else []
     beside = f", beside {counted(passing, right, 'session')} that pass{'' if passing[1:] else 'es'}" if passing else ""
     return [f"What {counted(failing, wrong, 'failure')} have in common{beside}. Look first at what your editor does then; these are counts, and the first line tells most:",

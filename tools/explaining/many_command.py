@@ -189,10 +189,11 @@ def print_unequal(rows: list, asked: argparse.Namespace) -> None:
               f"insert or a delete ({told})")
 
 
-def print_in_common(rows: list) -> None:
+def print_in_common(rows: list, asked: argparse.Namespace) -> None:
+    """Below the table; where that is JSON, on standard error, so that a log of CI has it."""
     told = in_common(rows)
     if told:
-        print("\n".join(["", *told]))
+        print("\n".join(told if asked.json else ["", *told]), file=sys.stderr if asked.json else sys.stdout)
 
 
 def print_errors(rows: list) -> None:
@@ -247,7 +248,7 @@ def main() -> None:
     if not asked.json:
         print_table(rows, listed, asked.weak)
         print_unequal(rows, asked)
-        print_in_common(rows)
+    print_in_common(rows, asked)
     print_warnings(rows)
     for path, words in found.alike:
         print(f"{NAME}: {shown(path)}: warning: {words}", file=sys.stderr)
