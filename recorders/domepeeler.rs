@@ -916,8 +916,8 @@ impl Recording {
                 self.save(&path).map(|()| path)
             });
         match saved {
-            Ok(path) => format!("The trace is saved: {}", path.display()),
-            Err(why) => format!("The trace can't be saved: {}: {why}. It is:\n{}", path.display(), self.lines),
+            Ok(path) => format!("The trace is saved: {}", shown(&path)),
+            Err(why) => format!("The trace can't be saved: {}: {why}. It is:\n{}", shown(path), self.lines),
         }
     }
 
@@ -1856,6 +1856,12 @@ fn is_at_work(run: &str, folder: &Path) -> bool {
     }
     let (letter, since) = state_of_process(process.parse().unwrap_or_default());
     since == begun && letter != "Z" && letter != "X"
+}
+
+/// A path for a message, which begins no line and sends nothing to a terminal.
+fn shown(path: &Path) -> String {
+    let letters = path.to_string_lossy();
+    letters.chars().map(|letter| if is_printable(letter) { letter.to_string() } else { letter.escape_default().to_string() }).collect()
 }
 
 /// A name or an id for an error: a byte that is no printable ASCII stands as `\x1b`, and so does the first of `::` or `##` that begins it,

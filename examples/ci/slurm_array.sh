@@ -16,5 +16,5 @@ traces=$(find -L "$part" -type d -exec realpath -z {} + | sort -zu |
 [ "$traces" -gt 0 ] && [ "$(grep -c '^{.*}$' "$lines")" -eq "$traces" ] || { echo "$lines has not a line for each trace" >&2; exit 2; }
 [ "$SLURM_ARRAY_TASK_ID" -eq 0 ] || exit 0
 for task in $(seq 0 "$last"); do set -- "$@" -path "night/part$task" -o; done
-stray=$(find -L night \( "$@" -false \) -prune -o -iname "*.trace" ! -type d -print -quit)
+stray=$(find -L night \( "$@" -false \) -prune -o -iname "*.trace" ! -type d -printf %p -quit | LC_ALL=C tr -c '[:print:]' '?')
 [ -z "$stray" ] || { echo "no task judges $stray: is there a part behind $last?" >&2; exit 2; }

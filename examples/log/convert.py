@@ -12,7 +12,11 @@ if sys.version_info < (3, 9):  # in words that an older Python can read
 import json
 import os
 
-from domepeeler import Recording, Refused
+try:
+    from domepeeler import Recording, Refused
+except ImportError:
+    sys.stderr.write("convert.py: put the recorder domepeeler.py beside this, or its folder into PYTHONPATH\n")
+    sys.exit(2)
 
 
 def record(recording, entry):
@@ -26,17 +30,31 @@ def record(recording, entry):
         recording.read(pad, shows)
 
 
+def fail(words):
+    """Ends with 2, and words of which each letter is printed as such."""
+    sys.stderr.write("convert.py: %s\n" % "".join(letter if letter.isprintable() else ascii(letter)[1:-1] for letter in words))
+    sys.exit(2)
+
+
+def main(log, trace):
+    if os.path.exists(log) and not os.path.isfile(log):
+        fail("%s is no regular file" % log)
+    if any(os.path.exists(path) and os.path.samefile(log, path) for path in (trace, trace + ".lines")):
+        fail("the trace would be written over the log")
+    recording = Recording(2)
+    with open(log, encoding="utf-8") as lines:
+        for number, line in enumerate(lines, 1):
+            recording.at(log, number)
+            try:
+                record(recording, json.loads(line))
+            except (Refused, ValueError, KeyError, TypeError) as why:  # so it is no such line, or says what no trace can
+                fail("%s:%d: %s" % (log, number, why))
+    recording.save(trace)
+
+
 if len(sys.argv) != 3:
-    sys.exit("usage: convert.py LOG TRACE")
-log, trace = sys.argv[1:]
-if any(os.path.exists(path) and os.path.samefile(log, path) for path in (trace, trace + ".lines")):
-    sys.exit("convert.py: the trace would be written over the log")
-recording = Recording(2)
-with open(log, encoding="utf-8") as lines:
-    for number, line in enumerate(lines, 1):
-        recording.at(log, number)
-        try:
-            record(recording, json.loads(line))
-        except Refused as why:
-            sys.exit("%s:%d: %s" % (log, number, why))
-recording.save(trace)
+    fail("it takes two words: LOG TRACE")
+try:
+    main(*sys.argv[1:])
+except (OSError, ValueError) as why:
+    fail(str(why))

@@ -172,9 +172,14 @@ async function saved(recording, asked, isOfRun) {
     if (isOfRun) path = await marked(path)
     await recording.save(path)
   } catch (why) {
-    return `The trace can't be saved in ${path}: ${why.code}. It is:\n${recording.text()}`
+    return `The trace can't be saved in ${shown(path)}: ${why.code}. It is:\n${recording.text()}`
   }
-  return `The trace is saved: ${path}`
+  return `The trace is saved: ${shown(path)}`
+}
+
+// A path for a message, which begins no line and sends nothing to a terminal.
+function shown(path) {
+  return path.replace(/[\p{C}\p{Zl}\p{Zp}]/gu, (letter) => `\\u{${letter.codePointAt(0).toString(16)}}`)
 }
 
 // The name of a run, by the process that began it: its number, when it was begun, and in which space of such numbers, as a container has its own.

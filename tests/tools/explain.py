@@ -117,7 +117,7 @@ WORDS = [
      "it sends." + stop(5, "replica 0 inserts c")),
     ("a delete where the order of two at its place differs already", 2, "0 ins a 0 : a|0 ins w 1 : a w|1 ins c 0 : c|1 recv 0 1|1 read : a c|1 del c : a|0 recv 1 1|0 recv 1 3|0 read : c a",
      "Where to look|c and a were inserted at one place without knowing of each other, and are shown in two orders: c before a in 0.3 (line 11), a before c in 1.2 (line 7). Look "
-     "first at the order of concurrent inserts, by a rule that never ties (as the replicas' numbers, and not the letters): by another order a later position hits another element.|It looks as if 1.3 (line 8), applied at replica 0, deleted w instead of c: look at "
+     "first at the order of concurrent inserts, by a rule that never ties (such as by the replicas' numbers, not by letters): where it differs, a later change by position hits another element.|It looks as if 1.3 (line 8), applied at replica 0, deleted w instead of c: look at "
      "how a replica that applies a delete finds the element, and at whether the recorder writes the name of the element that was deleted." + stop(9, "replica 0 applies 1.1")),
     ("an insert beside a deleted element, where others before it went well", 2, "0 ins a 0 : a|0 ins b 1 : a b|0 ins c 2 : a b c|0 ins z 3 : a b c z|1 recv 0 4|1 read : a b c z|"
      "1 del a : b c z|0 ins p 1 : a p b c z|1 recv 0 5|1 read : p b c z|1 del b : p c z|0 ins q 3 : a p b q c z|1 recv 0 6|1 read : p q c z|1 del c : p q z|"
@@ -226,7 +226,7 @@ WORDS = [
      "Replica 1 shows b before a in 1.2 (line 8), and a before b in 1.3 (line 9), though it received and changed nothing between. Something that is not recorded did that: behind a "
      "server or a relay, perhaps its answer to the replica's own change. Then one of the two lists is wrong: that of 1.2 (line 8), made when 0.1 came in line 7, or the one behind the "
      "answer. Compare how an arriving change and the replica's own that are still on their way are moved over each other with how it is done for the answer, and on the server, if it "
-     "adjusts positions: which changes, each once, and which one comes first at an equal position."),
+     "adjusts positions: for which changes, whether for each once, and which of two at one position comes first."),
     ("an insert beside what came since the last one", 2, "1 ins c 0 : c|0 ins a 0 : a|0 recv 1 1|0 read : a c|0 ins b 1 : a c b",
      "found at: position 2||Where to look|c came to replica 0 in line 5, beside a, which the replica had inserted "
      "itself before by 0.1 (line 4). Does the editor keep a place, or bounds, from its last insert? Then what arrives there must change these." + stop(7, "replica 0 inserts b", 5)),
@@ -479,7 +479,7 @@ WORDS = [
      "must be greater than that of b; perhaps it is not. Usual causes: the clock does not advance with each insert; ids are compared as text, so 10 comes before 9.|"),
     ("an own deleted element that comes back, and a list that heals", 2, "0 ins a 0 : a|1 ins r 0 : r|1 del r :|1 recv 0 1|1 read : r|1 read : a", "Where to look|"
      "When the insert of a by 0.1 (line 3) came in line 6, r came back, which replica 1 had deleted itself by 1.2 (line 5), and a is not there: perhaps that delete now hits it. Look at how the "
-     "replica's own changes that are still on their way are adjusted for what arrives (each of two over the other as that was before), and at how it takes them back and applies them anew, if it does.|"),
+     "replica's own changes that are still on their way are adjusted for what arrives (each for the other as it stood before), and at how it takes them back and applies them anew, if it does.|"),
     ("a wrong list that heals", 2, "0 ins a 0 : a|1 recv 0 1|1 read :|1 read : a", "Later replica 1 reads another list in 1.2 (line 6) than in 1.1 (line 5), though it received and changed nothing "
      "between. Something that is not recorded did that: behind a server, perhaps its answer to the replica's own change. Then server and replica make different things of one change: look "
      "at which changes each of them adjusts it for. Client and server must adjust alike, and each change once.|"),
@@ -1724,7 +1724,7 @@ def kinds(tally: Tally, program: str, folder: str) -> None:
     tally.check("kinds: of many", many.returncode == 1 and "rint both identifiers" in explained_there and "If the list is sorted" not in explained_there
                 and json.loads(many.stdout)["causes"] == ["concurrent", "identifiers"], (many, explained_there))
     turned = str(ROOT / "examples" / "prosemirror_text_changes_places.trace")
-    own = "the replica's own changes that are still on their way are adjusted for what arrives (each of two over the other as that was before), and at how it takes them back and applies them anew"
+    own = "the replica's own changes that are still on their way are adjusted for what arrives (each for the other as it stood before), and at how it takes them back and applies them anew"
     of_turned = {"": "(rebasing), look at where that puts them.", "neighbours": "once both are inserted, it must never change", "positions": f"Look at how {own}",
                  "identifiers": "Print the position identifiers of a, x and b at line 7."}
     for kind, wanted in of_turned.items():
@@ -1769,10 +1769,10 @@ FIRST_TOLD = {
     "own changes on their way": ("positions", 3, "0 ins a 0 : a|1 recv 0 1|2 recv 0 1|1 read : a|2 read : a|1 ins b 1 : a b|1 del a : b|0 ins c 1 : a c|2 recv 0 2|2 read : a c|1 recv 0 2|1 read : b",
         "When 0.2 came in line 13, replica 1 had changes of its own on their way, which its author had not seen: the insert of b by 1.2 (line 8) and the delete of a by 1.3 (line 9). Replica 2 "
         "received 0.2 too, and shows c in 2.2 (line 12). So c perhaps came well, and one of these deletes took it along. Look at how the replica's own changes that are still on their way are "
-        "adjusted for what arrives (each of two over the other as that was before), and at how it takes them back and applies them anew, if it does."),
+        "adjusted for what arrives (each for the other as it stood before), and at how it takes them back and applies them anew, if it does."),
     "a delete on its way that meets the same": ("positions", 2, "0 ins a 0 : a|0 ins b 1 : a b|1 recv 0 2|1 read : a b|1 del a : b|0 del a : b|0 ins c 1 : b c|1 recv 0 4|1 read : b",
         "When 0.4 came in line 10, replica 1 had changes of its own on their way, which its author had not seen: the delete of a by 1.2 (line 7). So c perhaps came well, and one of these deletes took "
-        "it along, as the one of a, which 0.3 (line 8) deletes as well. Look at"),
+        "it along, perhaps that of a, which 0.3 (line 8) deletes too. Look at"),
     "own changes that are gone": ("identifiers", 2, "0 ins a 0 : a|0 ins b 1 : a b|0 del a : b|0 read : a",
         "Replica 0 showed its own changes in 0.3 (line 5), and shows them no more: the insert of b by 0.2 (line 4) and the delete of a by 0.3 (line 5). No other replica shows that it has them. Look at "
         "what takes the place of its list, such as a state from elsewhere that was made without them, or at how they are taken back and applied anew; and at what keeps own changes until they are "
@@ -1788,17 +1788,17 @@ FIRST_TOLD = {
         "two in another order than replica 2, and [l] follows n there. So look at the order of concurrent inserts, n and [o], first: at what is done in line 5, line 6 and line 10."),
     "one replica alone in its order": ("positions", 3, "2 ins a 0 : a|2 ins b 0 : b a|1 ins c 0 : c|2 recv 1 1|2 read : b c a|0 recv 1 1|0 recv 2 1|0 read : a c|1 recv 2 1|1 read : a c",
         "Replicas 0 and 1 show a before c. Replica 2 alone shows them the other way round, first in 2.3 (line 7): so look first at what it did in line 6, when 1.1 came. It had two changes of its own on "
-        "their way then: the insert of a by 2.1 (line 3) and the insert of b by 2.2 (line 4). What comes must be adjusted for each of these, one after the other (each in turn as what comes became by "
-        "the one before), and each of these for what comes; also where some wait in a buffer behind one that is sent."),
+        "their way then: the insert of a by 2.1 (line 3) and the insert of b by 2.2 (line 4). What comes must be adjusted for the first of these, the result for the second, and so on; and each of "
+        "these for what comes as it is at its turn. That holds too for what waits in a buffer."),
     "one replica alone, with one change on its way": ("positions", 3, "2 ins a 0 : a|1 ins c 0 : c|2 recv 1 1|2 read : c a|0 recv 1 1|0 recv 2 1|0 read : a c|1 recv 2 1|1 read : a c",
         "Replicas 0 and 1 show a before c. Replica 2 alone shows them the other way round, first in 2.2 (line 6): so look first at what it did in line 5, when 1.1 came. It had one change of its own on "
-        "its way then, the insert of a by 2.1 (line 3). What comes must be adjusted for that, and that for what comes."),
+        "its way then, the insert of a by 2.1 (line 3). Each of the two must be adjusted for the other."),
     "a delete that hits what came with it": ("positions", 2, "0 ins a 0 : a|0 ins b 1 : a b|0 del b : a|1 recv 0 3|1 read : b",
         "It looks as if 0.3 (line 5), applied at replica 1, deleted a instead of b"),
     "an insert into a deleted range": ("positions", 3, "2 ins a 0 : a|2 ins b 1 : a b|1 recv 2 2|1 read : a b|2 ins c 2 : a b c|2 ins e 1 : a e b c|2 del b : a e c|2 del c : a e|1 ins d 2 : a b d|"
         "2 recv 1 2|2 read : a d e|1 recv 2 4|1 read : a e b d c",
         "[d] belongs between b and c, and both had been deleted, one directly after the other, by 2.5 (line 9) and 2.6 (line 10), when it came to replica 2 in line 12: it may be an insert into the middle "
-        "of a deleted range. Look at how such a one is adjusted: it goes to where the range began, and no further to the left; and at how the delete of a range is adjusted for it."),
+        "of a deleted range. Look at how such an insert is adjusted: it goes to where the range began, no further to the left. Look also at how the delete of a range is adjusted for it."),
     "a third replica that has applied it": ("neighbours", 3, "0 ins a 0 : a|1 recv 0 1|1 read : a|2 recv 0 1|2 read :",
         "It looks as if 0.1 (line 3) was not applied at replica 2: lost, or held back, or `received` is called before the change is applied. Replica 1 has applied 0.1, as 1.1 (line 5) shows: so look at "
         "replica 2.\n"),
@@ -1846,7 +1846,7 @@ def first_told(tally: Tally, program: str, folder: str) -> None:
     for kind, server in ("positions", ", and what the server makes of it, if it adjusts positions"), ("neighbours", ""):
         told = explain(program, ["--editor", kind, str(path)]).out.decode()
         tally.check(f"first told: {kind}: a delete that is wrong at two replicas", f"Replica 2 lacks b too, in 2.2 (line 13): so look first at what is sent{server}, and not at replica 1." in told, told)
-    own = "Replica 1 had two changes of its own on their way then: the insert of b by 1.2 (line 6) and the delete of a by 1.3 (line 7). What comes must be adjusted for each of these, one after the other"
+    own = "Replica 1 had two changes of its own on their way then: the insert of b by 1.2 (line 6) and the delete of a by 1.3 (line 7). What comes must be adjusted for the first of these, the result for the second, and so on"
     twice = "0 ins a 0 : a|1 recv 0 1|1 read : a|1 ins b 1 : a b|1 del a : b|0 del a :|1 recv 0 2|1 read :"
     for name, entries, lacks in ("alone", "", False), ("and a third that has got its delete", "|2 recv 1 3|2 recv 0 2|2 read :", False), ("and a third that hasn't", "|2 recv 1 2|2 recv 0 2|2 read :", True):
         path.write_text(text_of(3, twice + entries))
@@ -1857,7 +1857,7 @@ def first_told(tally: Tally, program: str, folder: str) -> None:
     for kind in "positions", "neighbours":
         told = explain(program, ["--editor", kind, str(path)]).out.decode()
         tally.check(f"first told: {kind}: a delete that is wrong at the server too", (
-            "Replica 1 lacks b too, in 1.3 (line 14): so look first at what is sent, and at what replica 2 makes of it, which changes nothing itself: if it is the server, at how" in told) == (
+            "Replica 1 lacks b too, in 1.3 (line 14): so look first at what is sent, and then at replica 2, which changes nothing itself. If that is the server, look at how" in told) == (
                 kind == "positions") and "and not at replica 2" not in told or kind == "neighbours", told)
     counted_twice = "Before that, a was deleted at replica 0 more than once: by 0.4 (line 9), and by 1.2, which came in line 10. If the editor counts how many elements it shows"
     begun = "0 ins a 0 : a|0 ins b 1 : a b|0 ins c 2 : a b c|1 recv 0 3|1 read : a b c|1 del a : b c|0 del a : b c|0 recv 1 2|0 read : b c"
@@ -1887,7 +1887,7 @@ def first_told(tally: Tally, program: str, folder: str) -> None:
             told = explain(program, [*(["--editor", kind] if kind else []), str(path)]).out.decode()
             tally.check(f"first told: {kind}: what another had deleted came back, by {what}", (words in told) == (kind != "positions") and (
                 f"since then it received 2.{2 + (what == 'several')} (line {line})\n  that brought: {brought}\n") in told, told)
-    rivals = "b and a were inserted at one place without knowing of each other: look also at which of them comes first, by a rule that never ties (as the replicas' numbers, and not the letters)"
+    rivals = "b and a were inserted at one place without knowing of each other: look also at which of them comes first, by a rule that never ties (such as by the replicas' numbers, not by letters)"
     for what, entries, is_rival in (
             ("into nothing", "0 ins a 0 : a|1 ins b 0 : b|0 del a :|1 recv 0 1|1 read : b a|1 recv 0 2|1 read : a", True),
             ("beside what the other had not", "0 ins x 0 : x|0 ins a 1 : x a|1 ins c 0 : c|1 ins b 0 : b c|0 del a : x|1 recv 0 2|1 read : x b a c|1 recv 0 3|1 read : x a c", True),

@@ -1404,13 +1404,13 @@ def overwriting(tally: Tally, program: str, folder: str) -> None:
     shutil.copy(ROOT / "examples/log/pads.log", log)
     for trace in log, Path(folder, ".", "pads.log"):
         got = subprocess.run([sys.executable, ROOT / "examples/log/convert.py", log, trace], capture_output=True, text=True, env={**os.environ, "PYTHONPATH": str(ROOT / "recorders")})
-        tally.check(f"overwriting: convert.py {trace}", (got.returncode, got.stdout, got.stderr) == (1, "", "convert.py: the trace would be written over the log\n")
+        tally.check(f"overwriting: convert.py {trace}", (got.returncode, got.stdout, got.stderr) == (2, "", "convert.py: the trace would be written over the log\n")
                     and log.read_bytes() == (ROOT / "examples/log/pads.log").read_bytes(), got)
     beside = Path(folder, "beside.trace.lines")
     beside.symlink_to(log)
     got = subprocess.run([sys.executable, ROOT / "examples/log/convert.py", log, Path(folder, "beside.trace")], capture_output=True, text=True,
                          env={**os.environ, "PYTHONPATH": str(ROOT / "recorders")})
-    tally.check("overwriting: convert.py, what stands beside the trace", got.returncode == 1 and log.read_bytes() == (ROOT / "examples/log/pads.log").read_bytes(), got)
+    tally.check("overwriting: convert.py, what stands beside the trace", got.returncode == 2 and log.read_bytes() == (ROOT / "examples/log/pads.log").read_bytes(), got)
     beside.unlink()
     log.unlink()
     for name, other in ("0", "trace 1\nreplicas 1\n0 ins b 0 : b\n"), ("1", "trace 2\nreplicas 1\n0 view :\n"):  # as in `--junit *.trace`
@@ -1499,6 +1499,37 @@ def odd_words(tally: Tally, program: str, folder: str) -> None:
         done = subprocess.run(words, capture_output=True, text=True)
         tally.check(f"odd words: {Path(words[0]).name}: {told}", done.returncode == 2 and not done.stdout
                     and done.stderr.endswith(f": error: {told}\n"), done)
+
+
+def converted(tally: Tally, program: str, folder: str) -> None:
+    """The example that makes a trace of a log ends with 2 and one line, whatever the log and its name are; and judges nothing."""
+    script, odd = str(ROOT / "examples/log/convert.py"), os.path.join(folder, "x\n::error::\x1b[31m.log")
+    here = {**os.environ, "PYTHONPATH": str(ROOT / "recorders")}
+    shown = f"{folder}/x\\n::error::\\x1b[31m.log"
+    os.mkfifo(f"{folder}/pipe.log")
+    Path(f"{folder}/bytes.log").write_bytes(b"\xff\n")
+    for log, lines, told in ((odd, "no JSON\n", f"{shown}:1: Expecting value"), (odd, '{"pad": 0}\n', f"{shown}:1: 'id'"), (odd, "[]\n", f"{shown}:1: list indices"),
+                             (odd, '{"pad": 7, "id": "a", "did": "got", "shows": []}\n', f"{shown}:1: no replica 7"), (f"{folder}/none.log", None, "[Errno 2] No such file"),
+                             (f"{folder}/pipe.log", None, f"{folder}/pipe.log is no regular file"), (f"{folder}/bytes.log", None, "'utf-8' codec can't decode")):
+        if lines is not None:
+            Path(log).write_text(lines)
+        done = subprocess.run([sys.executable, script, log, f"{folder}/made.trace"], capture_output=True, text=True, env=here, timeout=60)
+        tally.check(f"convert.py: {told}", (done.returncode, done.stdout) == (2, "") and done.stderr.startswith(f"convert.py: {told}") and
+                    all(line.isprintable() and line.startswith(("convert.py: ", "domepeeler: ")) for line in done.stderr.splitlines()) and not os.path.exists(f"{folder}/made.trace"), done)
+    done = subprocess.run([sys.executable, script], capture_output=True, text=True, env=here)
+    tally.check("convert.py: no words", (done.returncode, done.stderr) == (2, "convert.py: it takes two words: LOG TRACE\n"), done)
+    done = subprocess.run([sys.executable, "-I", script, odd, f"{folder}/made.trace"], capture_output=True, text=True)
+    tally.check("convert.py: no recorder", done.returncode == 2 and done.stderr.startswith("convert.py: put the recorder") and done.stderr.count("\n") == 1, done)
+
+
+def asked_once(tally: Tally, program: str, folder: str) -> None:
+    """The program is asked once for its version, and then once for each trace."""
+    write(folder, {f"{number}.trace": "0 ins a 0 : a" for number in range(3)})
+    counting = Path(folder, "counting")
+    counting.write_text(f'#!/bin/sh\necho "$1" >> {folder}/asked\nexec {program} "$@"\n')
+    counting.chmod(0o755)
+    done = judge(str(counting), [folder])
+    tally.check("the program is asked once for its version", done.status == 0 and sorted(Path(folder, "asked").read_text().split()) == ["--version", *["verdict"] * 3], done)
 
 
 def names_like_commands(tally: Tally, program: str, folder: str) -> None:
@@ -1811,13 +1842,15 @@ def tasks(tally: Tally, program: str, folder: str) -> None:
 
 def stray(tally: Tally, kind: str, place: str, words: list, here: dict) -> None:
     """A trace that lies in no task's folder fails task 0, which says which; other tasks judge what is theirs."""
-    for name, is_stray in ("part99/last.trace", False), ("notes/seed.txt", False), ("part100/more.trace", True), ("beside.trace", True), ("part07/x.TRACE", True):
+    for name, is_stray in ("part99/last.trace", False), ("notes/seed.txt", False), ("part100/more.trace", True), ("beside.trace", True), ("part07/x.TRACE", True), (
+            "x\n::error::forged \x1b[31m.trace", True):
         write(f"{place}/night", {name: "0 ins a 0 : a", "part7/x.trace": "0 ins a 0 : a"})
         for task, fails in ("0", is_stray), ("7", False):
             of_task = {key: task if key in ("SLURM_ARRAY_TASK_ID", "JOB_COMPLETION_INDEX") else value for key, value in here.items()}
             done = subprocess.run(words, cwd=place, capture_output=True, text=True, env=of_task)
             tally.check(f"tasks: {kind}: {name} beside the tasks' folders, task {task}", done.returncode == (2 if fails else 0) and
-                        (re.search(rf"^no task judges (night|\.)/{name}: is there a part behind 99\?\n$", done.stderr, re.MULTILINE) is not None) == fails, done)
+                        (re.search(rf"^no task judges (night|\.)/{re.escape(re.sub(r'[^ -~]', '?', name))}: is there a part behind 99\?\n$", done.stderr, re.MULTILINE) is not None) == fails
+                        and "\n::" not in done.stderr and "\x1b" not in done.stderr, done)
         shutil.rmtree(f"{place}/night/part7")
         Path(place, "night", name).unlink()
     if kind != "kubernetes":
@@ -2227,7 +2260,7 @@ def main() -> None:
         fails_at(tally, program, third)
         warnings(tally, program, folder)
         warnings_of_sessions(tally, program, other)
-    for check in (what_is_common, time_of_common, pythons, left_over, beside_elsewhere, safe_paths, little_memory, not_looked_at, changing, told_of_what_was_judged, explained_once, weak, weak_junit, weak_in_ci,
+    for check in (what_is_common, time_of_common, converted, asked_once, pythons, left_over, beside_elsewhere, safe_paths, little_memory, not_looked_at, changing, told_of_what_was_judged, explained_once, weak, weak_junit, weak_in_ci,
                   known_as_cut, refused_calls, grouped, no_entries, no_files, overwriting, millions_of_names, odd_names, one_way_to_show, odd_words, names_like_commands, tasks, script_of_ci,
                   big_traces, time_of_small, time_of_big, long_cycles):
         with tempfile.TemporaryDirectory() as folder:

@@ -1299,6 +1299,10 @@ def check_python(tally: Tally, place: Place) -> None:
                 kept)
     tally.check("pytest: Git passes over the folder", Path(place.folder, "python/failed_traces/.gitignore").read_text() == "*\n")
     lost = [*command, "-k", "test_lost", "--failed-traces"]
+    odd = place.run([*lost, "odd\n::error::forged \x1b[31m"], "python")
+    tally.check("pytest: a folder with an odd name forges no line", f"The trace is saved: {place.folder}/python/odd\\n::error::forged \\x1b[31m/test_editor.py--test_lost.trace\n" in odd.stdout and
+                not any(line.startswith("::error::") for line in odd.stdout.splitlines() if not line.endswith("could not create cache path")), odd.stdout)
+    shutil.rmtree(place.folder / "python/odd\n::error::forged \x1b[31m")
     done = place.run([*lost, "kept/here"], "python")
     check_saved(tally, "pytest: a folder that is asked for", done.stdout, place.folder / "python/kept/here")
     done = place.run([*lost, "test_editor.py"], "python")
@@ -1786,6 +1790,11 @@ def check_javascript(tally: Tally, place: Place) -> None:
     tally.check("node --test: of a property what may hide something is warned of once", done.stdout.count(hidden) == 1, done.stdout)
     tally.check("node --test: a path of its own", own == [".gitignore", "awaited.trace", "awaited.trace.lines"], own)
     check_ends_of_node(tally, place)
+    place.make("packed/odd.test.mjs", 'import { test } from "node:test"\nimport { recorded } from "domepeeler/node_test"\n'
+               'test("lost", recorded(1, (recording) => recording.insert(0, "a", 0, []), { folder: "odd\\n::error::forged \\u001b[31m" }))\n')
+    odd = place.run(["node", "--test", "--test-reporter=tap", "odd.test.mjs"], "packed")
+    tally.check("node --test: a folder with an odd name forges no line", re.search(r"The trace is saved: [^\n]*/odd\\+u\{a\}::error::forged \\+u\{1b\}\[31m/odd\.test\.mjs-", odd.stdout) and
+                not any(line.lstrip("# ").startswith("::error::") for line in odd.stdout.splitlines()), odd.stdout)
     place.make("packed/runs.test.mjs", TWO_RUNS_OF_NODE)
     runs = TwoRuns("Node", ["node", "--test", "--test-reporter=tap", "runs.test.mjs"], "packed", "runs.test.mjs--soon")
     check_two_runs(tally, place, runs)

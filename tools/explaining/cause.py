@@ -22,13 +22,13 @@ ELSEWHERE_ONE = {True: "at another replica it has one", False: "at other replica
 PUT_AT_ONCE = {True: " At the place of {element} also {others} was inserted, and neither author had the other's insert. Look also at which of them comes first.",
                False: " At the place of {element} also {others} were inserted; their authors did not have {element}, nor its author theirs. Look also at which of "
                       "them comes first."}
-OWN_ADJUSTED = "how the replica's own changes that are still on their way are adjusted for what arrives (each of two over the other as that was before), and at how it takes them back and applies them anew, if it does."
+OWN_ADJUSTED = "how the replica's own changes that are still on their way are adjusted for what arrives (each for the other as it stood before), and at how it takes them back and applies them anew, if it does."
 EMPTIED = ("Before that, in line {line}, replica {replica} received {change}, which deletes {element}, though it had deleted that itself, by {other}. Each becomes nothing for the other, and must still be counted as "
            "received, by both sides alike (numbers of messages, what waits for its acknowledgement): else what comes later is adjusted once too often, or too seldom.")
 NONE_ON_WAY = "No change of its own was on its way then: so look at what the server made of {came}, if it adjusts positions, and at what was sent before it."
-ONE_ON_WAY = "{who} had one change of its own on its way then, {own}. What comes must be adjusted for that, and that for what comes."
-SEVERAL_ON_WAY = ("{who} had {count} changes of its own on their way then: {own}. What comes must be adjusted for each of these, one after the other (each in turn as what comes became by the one before), and "
-                  "each of these for what comes; also where some wait in a buffer behind one that is sent.")
+ONE_ON_WAY = "{who} had one change of its own on its way then, {own}. Each of the two must be adjusted for the other."
+SEVERAL_ON_WAY = ("{who} had {count} changes of its own on their way then: {own}. What comes must be adjusted for the first of these, the result for the second, and so on; "
+                  "and each of these for what comes as it is at its turn. That holds too for what waits in a buffer.")
 DELETED_TWICE = ("Before that, {element} was deleted at replica {replica} more than once: by {other}, and by {change}, which came in line {line}. If the editor counts how many elements it shows (in blocks, or "
                  "below the nodes of a tree), it must take each off once alone: else it counts a local position wrongly from then on.")
 BY_ITSELF = "perhaps deleted elements are thrown away there, changes that were held back are applied, or a copy of the list that is shown is made anew."

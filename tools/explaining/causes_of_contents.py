@@ -25,7 +25,7 @@ NOT_APPLIED = ("It looks as if {changes} {were} not applied at replica {replica}
                "change is applied.{later}{elsewhere}{other}")
 KEPT_BACK = (" Between {change} and its first arrival elsewhere (line {first}) replica {author} received {came}: so stop before line {line} too, and look at ")
 LACKED_ELSEWHERE = " Replica {other} lacks {missing} too, in {operation}: so look first at what is sent{server}, and not at replica {replica}."
-LACKED_AT_SERVER = (" Replica {other} lacks {missing} too, in {operation}: so look first at what is sent, and at what replica {replica} makes of it, which changes nothing itself: if it is the server, at how it "
+LACKED_AT_SERVER = (" Replica {other} lacks {missing} too, in {operation}: so look first at what is sent, and then at replica {replica}, which changes nothing itself. If that is the server, look at how it "
                     "adjusts what arrives for all that its author had not seen.")
 LATER = {True: " It is shown from {operation} on, behind what came in line {line}: perhaps it was held back until then, or its receipt was written too early.",
          False: " It is shown from {operation} on, though nothing else came between: so it had come, and what was shown is out of date. Is each list that is kept for showing, such as a cache, made anew "
@@ -50,12 +50,12 @@ WRONG_DELETE = ("It looks as if {delete}, applied at replica {replica}, deleted 
                 "delete finds the element, and at whether the recorder writes the name of the element that was deleted.")
 WRONG_LOCAL_DELETE = ("It looks as if {delete} deleted {missing} instead of {surplus}: look at how a local delete finds the element, and at whether the recorder writes the name "
                       "of the element that was deleted.")
-RIVALS = (" {missing} and {element} were inserted at one place without knowing of each other: look also at which of them comes first, by a rule that never ties (as the replicas' numbers, and not the letters) and is "
+RIVALS = (" {missing} and {element} were inserted at one place without knowing of each other: look also at which of them comes first, by a rule that never ties (such as by the replicas' numbers, not by letters) and is "
           "the same on both sides; else the delete hits the other one.")
 WRONG_POSITION = ("It looks as if {delete}, applied at replica {replica}, deleted {missing} instead of {surplus}: look at how its position is adjusted there, also for changes "
                   "of the replica's own that its author had not seen; and at whether the recorder writes the name of the element that was deleted.")
 TIED = ("{one} and {two} were inserted at one place without knowing of each other, and are shown in two orders: {one} before {two} in {before}, {two} before {one} in {after}. "
-        "Look first at the order of concurrent inserts, by a rule that never ties (as the replicas' numbers, and not the letters): by another order a later position hits another element.")
+        "Look first at the order of concurrent inserts, by a rule that never ties (such as by the replicas' numbers, not by letters): where it differs, a later change by position hits another element.")
 MISNAMED = ("{deletes} delete{s} {named}; but {wrong}, while {missing}. Look at which ids a local delete puts into the change that it sends{several}.")
 NOT_SHOWN = "{element} does not stand in {before}{unknown}"
 SEVERAL_IDS = ": of several elements each has its own, which need not follow from the one before"
@@ -89,7 +89,7 @@ BACK_AGAIN = "When {came} came{line}, {back} came back, which {was} deleted at r
 OWN_ON_WAY = ("When {came} came{line}, replica {replica} had changes of its own on their way, which its author had not seen: {own}.{elsewhere} So {missing} perhaps came well, and one of these "
               "deletes took {it} along{twice}. Look at ")
 SHOWN_ELSEWHERE = " Replica {other} received {same} too, and shows {missing} in {operation}."
-TWICE = ", as the one of {element}, which {other} deletes as well"
+TWICE = ", perhaps that of {element}, which {other} deletes too"
 OWN_GONE = ("Replica {replica} showed its own changes in {before}, and shows them no more: {own}.{came}{unknown} Look at what takes the place of its list, such as a state from elsewhere that was "
             "made without them, or at how they are taken back and applied anew; and at what keeps own changes until they are confirmed, and when it lets go of them.")
 CAME_SINCE = " Since then it received {came}."

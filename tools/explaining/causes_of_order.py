@@ -29,7 +29,7 @@ DECIDES = ("what decides which of {two} and {one} comes first: once both are ins
            "or received later.")
 MAPPING = ("Look at how the position that a user sees is mapped to a place in the editor's own list{deleted}; and at whether the "
            "recorder writes the position that was asked for.")
-ADJUSTS = "how what comes is adjusted there for the replica's own changes that are still on their way, and these for what comes."
+ADJUSTS = "how what comes and the replica's own changes that are still on their way are adjusted for each other there."
 BESIDE_GONE = ("{passed} was put {side} {gone} ({insert}), which is deleted at replica {replica} by now: so {element} belongs beside a deleted element. Look at how an insert finds its "
                "place there; in a tree of elements, at how the children of a deleted one are shown: all of its left side come before all of its right side.")
 NUMBERS = ("If the editor decides by numbers (a clock, ids) which of two inserts at one place comes first, look at theirs: {element} stands behind "
@@ -61,7 +61,7 @@ SEVERAL_APART = ("Look at how a replica orders elements when it has only some of
 WEAK_ALONE_HOLDS = ("An editor whose server orders all changes, as Jupiter's does, promises only the weak list specification, which holds here. If yours is "
                     "such a one, nothing is wrong here: ask for weak alone, in the tools by --weak.")
 IN_RANGE = ("[{new}] belongs between {left} and {right}, and both had been deleted, one directly after the other, by {first} and {then}, when it came to replica {replica} in line {line}: it may be an insert into the "
-            "middle of a deleted range. Look at how such a one is adjusted: it goes to where the range began, and no further to the left; and at how the delete of a range is adjusted for it.")
+            "middle of a deleted range. Look at how such an insert is adjusted: it goes to where the range began, no further to the left. Look also at how the delete of a range is adjusted for it.")
 SETTLED = ("Look at where a replica places an incoming insert beside a deleted element: [{first}] was put before [{middle}] ({op_first}), and [{then}] behind it ({op_then}), so "
               "[{middle}] settles their order, also where it is deleted; yet {wrong} shows them the other way round. {then_what}")
 SETTLED_BY = {
@@ -121,12 +121,12 @@ SHOWN_ALONE = ("Replica {replica}, which inserted [{new}] ({insert}, line {line}
                "on it shows it {other_side} [{old}], as the others do. ")
 ANOTHER_PLACE = ("So the insert's change says another place than the one where the replica itself shows it: look at how a local insert is put into the list, and at what its change "
                  "carries.")
-MOVED_THEN = "Look first at what is done in line {receipt}: at how the replica's own changes that are still on their way are adjusted for what arrives (each of two over the other as that was before), and at how it takes them back and applies them anew, if it does"
+MOVED_THEN = "Look first at what is done in line {receipt}: at how the replica's own changes that are still on their way are adjusted for what arrives (each for the other as it stood before), and at how it takes them back and applies them anew, if it does"
 ALONE_BY = {"": ANOTHER_PLACE + " Or the insert was moved in line {receipt}, behind a server: then look at how the replica's own changes that are still on their way are adjusted for what arrives.",
             NEIGHBOURS: ANOTHER_PLACE, TREE: ANOTHER_PLACE, IDENTIFIERS: ANOTHER_PLACE, POSITIONS: MOVED_THEN + "; and then at what the insert's change carries."}
 ONE_IS_WRONG = ("behind a server or a relay, perhaps its answer to the replica's own change. Then one of the two lists is wrong: that of {before}{made}, or the one behind the answer. "
-                "Compare how an arriving change and the replica's own that are still on their way are moved over each other with how it is done for the answer{server}: which changes, each "
-                "once, and which one comes first at an equal position.")
+                "Compare how an arriving change and the replica's own that are still on their way are moved over each other with how it is done for the answer{server}: for which changes, whether for each once, "
+                "and which of two at one position comes first.")
 TURNED_BY_ITSELF = ("Replica {replica} shows {two} before {one} in {before}, and {one} before {two} in {after}, though it received and changed nothing between. Something that is not "
                     "recorded did that: ")
 MOVED_INSERT = ("If the editor sends positions, the position of {element} was perhaps not adjusted for {changes}, which replica {replica} "

@@ -339,12 +339,14 @@ def since(evidence: Evidence, operation: Operation, still: str = "is right") -> 
 
 
 def brought(evidence: Evidence, operation: Operation) -> list:
-    """The changes that came to the replica since its operation before, and which of them deletes what was deleted there."""
+    """The changes that came to the replica since its operation before, but for what came and was deleted, and which of them deletes what was deleted there."""
     before, receipts = evidence.before(operation)
     came = [change for change in evidence.recording.changes() if change.replica != operation.replica and operation.has_seen(change)
             and not (before and before[0].has_seen(change))] if receipts else []
-    told = [did_there(evidence, change, operation.replica) for change in came[:MOST_ARRIVED]]
-    more = f" and {len(came) - MOST_ARRIVED} more" if len(came) > MOST_ARRIVED else ""
+    gone = {change.element for change in came if change.kind == "ins"} & {change.element for change in came if change.kind == "del"}
+    kept = [change for change in came if change.element not in gone]
+    told = [did_there(evidence, change, operation.replica) for change in kept[:MOST_ARRIVED]]
+    more = f" and {len(kept) - MOST_ARRIVED} more" if len(kept) > MOST_ARRIVED else ""
     return [f"that brought: {', '.join(told)}{more}"] if told else []
 
 

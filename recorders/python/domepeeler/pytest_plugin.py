@@ -303,8 +303,13 @@ def saved(item: pytest.Item, recording: Recording, number: Optional[int]) -> str
         make_folder(path.parent)
         recording.save(path)
     except OSError as why:
-        return f"The trace can't be saved in {path}: {why.strerror}. It is:\n{recording.text()}"
-    return f"The trace is saved: {path}"
+        return f"The trace can't be saved in {shown(path)}: {why.strerror}. It is:\n{recording.text()}"
+    return f"The trace is saved: {shown(path)}"
+
+
+def shown(path: Path) -> str:
+    """A path for a message, which begins no line and sends nothing to a terminal."""
+    return "".join(letter if letter.isprintable() else ascii(letter)[1:-1] for letter in str(path))
 
 
 def make_folder(folder: Path) -> None:
