@@ -24,8 +24,8 @@
  * Each call that a trace can't say answers 0 and leaves the recording as it was; domepeeler_why() then says why, and
  * domepeeler_full() whether it is that a limit of traces is reached: then end this session, and begin another. What was refused is
  * missing in the recording, so warnings and explanations begin with it. domepeeler_free() says on standard error where nothing has judged the
- * recording, explained it, saved it or taken its text since something was recorded or refused; the end of the process says it of what is not
- * freed. domepeeler_judge() answers the report as JSON, whatever the verdict is: a test that doesn't look at it passes.
+ * recording, explained it, saved it or taken its text since something was recorded or refused; exit() says it of what is not freed by then.
+ * domepeeler_judge() answers the report as JSON, whatever the verdict is: a test that doesn't look at it passes.
  *
  * An editor with a server that orders changes (Jupiter and its kin) promises the weak list specification alone, and is right with
  * `refused 3` or more. For such a one ask, in the place of domepeeler_passes() and domepeeler_explain():
@@ -383,12 +383,29 @@ struct domepeeler_all {
     pthread_mutex_t lock;
     struct domepeeler *first;
     int is_told;  /* whether the end of the process tells of them */
-    long process; /* that began the last one */
+    long process; /* that began them; 0 where there was none */
 };
 
 static inline struct domepeeler_all *domepeeler_all(void) {
     static struct domepeeler_all all = {PTHREAD_MUTEX_INITIALIZER, NULL, 0, 0};
     return &all;
+}
+
+/* The process of these recordings, which a forked one inherits. */
+static inline long domepeeler_process_of(struct domepeeler_all *all) {
+#ifdef __GNUC__
+    return __atomic_load_n(&all->process, __ATOMIC_ACQUIRE);
+#else
+    return all->process;
+#endif
+}
+
+static inline void domepeeler_set_process(struct domepeeler_all *all) {
+#ifdef __GNUC__
+    __atomic_store_n(&all->process, (long)getpid(), __ATOMIC_RELEASE);
+#else
+    all->process = (long)getpid();
+#endif
 }
 
 /* Whether nobody has what this process recorded, and so nobody has judged it. A session that is judged after each call lacks what was refused
@@ -410,29 +427,37 @@ static inline void domepeeler_tell_unjudged(const struct domepeeler *d, const ch
     fprintf(stderr, *d->why ? "; the last call that failed: %s\n" : "%s\n", d->why);
 }
 
-/* As the process ends: says on standard error of what is not freed that nobody has it, of one whole and how many more there are. */
+/* As the process ends, or the library that this is part of: says on standard error of what is not freed that nobody has it so far, of one whole
+ * and how many more there are; but of one that is in a call, as where its call-back ends the process. */
 static inline void domepeeler_tell_left(void) {
     struct domepeeler_all *all = domepeeler_all();
     size_t count = 0;
-    if (all->process != (long)getpid()) return; /* of a forked one, where another thread may have held the lock */
+    if (domepeeler_process_of(all) != (long)getpid()) return; /* of a forked one, where another thread may have held the lock */
     pthread_mutex_lock(&all->lock);
     for (struct domepeeler *d = all->first; d; d = d->next) {
-        int is_free = !pthread_mutex_trylock(d->lock); /* else some thread is in a call, or in the call-back that ends the process */
-        if (domepeeler_is_unjudged(d) && !count++) domepeeler_tell_unjudged(d, "a recording is not freed as the process ends");
-        if (is_free) pthread_mutex_unlock(d->lock);
         d->of_all = NULL;
+        if (pthread_mutex_trylock(d->lock)) continue;
+        if (domepeeler_is_unjudged(d) && !count++) domepeeler_tell_unjudged(d, "at the end of the program a recording is still not freed");
+        pthread_mutex_unlock(d->lock);
     }
     all->first = NULL;
     pthread_mutex_unlock(&all->lock);
     if (count > 1) fprintf(stderr, "domepeeler: and %lu more so\n", (unsigned long)(count - 1));
 }
 
-/* Lists a recording among those that are not freed. */
+/* Lists a recording among those that are not freed. In a forked process, which begins with one thread, the list and its lock begin anew: some
+ * other thread of the process before may have held it. */
 static inline void domepeeler_list(struct domepeeler *d) {
     struct domepeeler_all *all = domepeeler_all();
+    long before = domepeeler_process_of(all);
+    if (before && before != (long)getpid()) {
+        pthread_mutex_init(&all->lock, NULL);
+        all->first = NULL;
+        domepeeler_set_process(all);
+    }
     pthread_mutex_lock(&all->lock);
     all->is_told = all->is_told || !atexit(domepeeler_tell_left);
-    all->process = (long)getpid();
+    if (!before) domepeeler_set_process(all);
     d->next = all->first;
     if (d->next) d->next->listed = &d->next;
     d->listed = &all->first;
@@ -442,7 +467,7 @@ static inline void domepeeler_list(struct domepeeler *d) {
 }
 
 static inline void domepeeler_unlist(struct domepeeler *d) {
-    pthread_mutex_t *lock = d->of_all;
+    pthread_mutex_t *lock = d->process == (long)getpid() ? d->of_all : NULL; /* a forked process has no part in that list */
     if (!lock) return;
     pthread_mutex_lock(lock);
     if (d->of_all) {

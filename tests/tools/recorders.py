@@ -3267,12 +3267,66 @@ int main(int count, char **words) {{
         if (!strcmp(leaves, "two left")) said = said && domepeeler_read(domepeeler_new(1), 0, lost, 1);
         if (!strcmp(leaves, "left in a fork") && !fork()) exit(0);
         if (!strcmp(leaves, "left in a fork")) wait(NULL);
+        if (!strcmp(leaves, "freed last")) domepeeler_free(d);
         return !said;
     }}
     domepeeler_free(d);
     return !said;
 }}
 """
+# Programs in C that end while recordings are in use: threads begin and free some while others are forked, which must not wait for ever; a call-back
+# that ends the process; a thread that records on; and one that is judged and freed by what runs at the end.
+ENDING = {
+    "threads and forks": """static void *goes_on(void *x) { for (;;) domepeeler_free(domepeeler_new(1)); return x; }
+int main(void) {
+    pthread_t thread;
+    for (int i = 0; i < 4; i++) pthread_create(&thread, NULL, goes_on, NULL);
+    for (int i = 0; i < 300; i++) {
+        pid_t child = fork();
+        int status = 0;
+        if (!child) {
+            alarm(5);
+            struct domepeeler *one = domepeeler_new(1), *two = domepeeler_new(1);
+            domepeeler_free(one);
+            domepeeler_free(two);
+            _exit(0);
+        }
+        if (waitpid(child, &status, 0) != child || status) return 1;
+    }
+    return 7;
+}""",
+    "a call-back that ends the process": """static void ends(const char *words, void *data) { (void)words, (void)data; exit(7); }
+int main(void) {
+    struct domepeeler *d = domepeeler_new(1);
+    const char *lost[] = {"lost"};
+    return domepeeler_stop(d, 0, ends, NULL) && domepeeler_read(d, 0, lost, 1);
+}""",
+    "a thread that records on": """static void *goes_on(void *d) { while (domepeeler_read((struct domepeeler *)d, 0, NULL, 0)) continue; return NULL; }
+int main(void) {
+    struct domepeeler *d = domepeeler_new(1);
+    pthread_t thread;
+    pthread_create(&thread, NULL, goes_on, d);
+    usleep(3000);
+    return 7;
+}""",
+}
+
+
+def check_ending(tally: Tally, program: str, folder: Path) -> None:
+    """However a program in C ends, and whatever its threads do, the recorder does not hang, and reads nothing that was freed."""
+    place = folder / "ending"
+    place.mkdir()
+    for name, text in ENDING.items():
+        (place / "ending.c").write_text(f'#include "{ROOT / "recorders"}/domepeeler.h"\n{text}\n')
+        sanitizer = [] if "forks" in name else ["-fsanitize=address"]  # whose allocator has locks of its own, which a forked process inherits
+        subprocess.run(["gcc", "-O1", "-g", "-Wall", "-Wextra", "-Werror", *sanitizer, "-D_GNU_SOURCE", "-o", "ending", "ending.c", "-lpthread"], cwd=place, check=True)
+        for _ in range(20 if "records on" in name else 1):
+            done = subprocess.run(["./ending"], cwd=place, capture_output=True, text=True, timeout=120, env={
+                **os.environ, "DOMEPEELER": program, "DOMEPEELER_EXPLAIN": EXPLAIN, "ASAN_OPTIONS": "detect_leaks=0"})
+            told = "" if "records on" not in name else done.stderr
+            tally.check(f"C, ending: {name}", done.returncode == 7 and done.stderr == told and "AddressSanitizer" not in done.stderr, done)
+
+
 TOLD_WHEN_FREED = {"recorded": "recorded or refused", "text, later": "recorded or refused", "text, refused": "recorded or refused", "judge by nowhere":
                    "recorded or refused", "save nowhere": "recorded or refused", "stop, refused": "refused"}
 SILENT_WHEN_FREED = ["nothing", "judge", "explain", "weak", "save", "text", "stop", "forked"]
@@ -3284,13 +3338,13 @@ def check_freed(tally: Tally, program: str, folder: Path) -> None:
     place = folder / "freed"
     place.mkdir()
     (place / "freed.c").write_text(FREED)
-    subprocess.run(["gcc", "-Wall", "-Wextra", "-Werror", "-o", "freed", "freed.c"], cwd=place, check=True)
+    subprocess.run(["gcc", "-Wall", "-Wextra", "-Werror", "-fsanitize=address", "-g", "-o", "freed", "freed.c"], cwd=place, check=True)
     line = next(number for number, text in enumerate(FREED.splitlines(), 1) if "/* reads */" in text)
     for way, leaves in [(way, leaves) for way in [*TOLD_WHEN_FREED, *SILENT_WHEN_FREED] for leaves in ("freed", "left")] + [
-            ("recorded", "left in a fork"), ("recorded", "two left"), ("judge", "two left")]:
-        done = subprocess.run(["./freed", way, leaves], cwd=place, capture_output=True, text=True,
-                              env={**os.environ, "DOMEPEELER": program, "DOMEPEELER_EXPLAIN": EXPLAIN})
-        begins = "a recording is freed" if leaves == "freed" else "a recording is not freed as the process ends"
+            ("recorded", "left in a fork"), ("recorded", "two left"), ("judge", "two left"), ("recorded", "freed last"), ("judge", "freed last")]:
+        done = subprocess.run(["./freed", way, leaves], cwd=place, capture_output=True, text=True, timeout=60,
+                              env={**os.environ, "DOMEPEELER": program, "DOMEPEELER_EXPLAIN": EXPLAIN, "ASAN_OPTIONS": "detect_leaks=0"})
+        begins = "a recording is freed" if leaves.startswith("freed") else "at the end of the program a recording is still not freed"
         told = [f"domepeeler: {begins}, and nothing has judged it, saved it or taken its text since something was {TOLD_WHEN_FREED.get(way, 'recorded or refused')}; "
                 f"its last line was recorded by freed.c:"] * (way in TOLD_WHEN_FREED or leaves == "two left")
         told += ["domepeeler: and 1 more so"] * (way in TOLD_WHEN_FREED and leaves == "two left")
@@ -4011,6 +4065,7 @@ def main() -> None:
         check_own_panics(tally, program, folder)
         check_dropped(tally, program, folder)
         check_freed(tally, program, folder)
+        check_ending(tally, program, folder)
         check_compilers(tally, folder)
         check_spawns(tally, folder)
         check_forked_c(tally, folder)
