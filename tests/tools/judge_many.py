@@ -35,7 +35,7 @@ sys.path[:0] = [str(ROOT / "recorders" / "engines"), str(ROOT / "recorders"), st
 import merge  # noqa: E402
 import planted  # noqa: E402
 import sessions as exchanged  # noqa: E402
-from explaining import files, in_common, judges, lookers, rows  # noqa: E402
+from explaining import files, in_common, judges, lookers, recordings, rows  # noqa: E402
 from explaining.kinds import HINT  # noqa: E402
 from list_crdt import Group, play  # noqa: E402
 
@@ -444,24 +444,103 @@ def what_is_common(tally: Tally, program: str, folder: str) -> None:
     tally.check("in common: of traces that are gone, or are others by now", in_common.in_common([row] * 9 + [row._replace(file=f"{folder}/twice/1.trace", lines=3)] * 9) == [])
 
 
+# By what is tried: how many replicas, the entries, and the situations right before the last list; if a number stands behind these, up to that line.
+TWO_DELETES = "0 ins a 0 : a|1 recv 0 1|1 read : a|0 del a :|1 del a :|1 recv 0 2"
+DELETED_TWICE = {in_common.TWICE, in_common.OWN, in_common.NAMES_GONE, in_common.UNSEEN["del", "del"]}
+ALL_KNOW = "0 ins a 0 : a|0 ins b 1 : a b|1 recv 0 2|1 read : a b|2 recv 0 2|2 read : a b"
+SITUATIONS = {
+    "a second delete": (2, f"{TWO_DELETES}|1 read :", DELETED_TWICE),
+    "a second delete, and a view": (2, f"{TWO_DELETES}|1 view :|1 read :", DELETED_TWICE),
+    "up to a view": (2, f"{TWO_DELETES}|1 view :|1 read :|1 ins b 0 : b", DELETED_TWICE, 9),
+    "up to a line": (2, f"{TWO_DELETES}|1 read :|1 ins b 0 : b", DELETED_TWICE, 9),
+    "a delete of what another one deletes elsewhere": (3, "0 ins a 0 : a|1 recv 0 1|2 recv 0 1|2 read : a|0 del a :|1 del a :|2 recv 0 2|2 read :", set()),
+    "beside what came and was deleted": (3, f"{ALL_KNOW}|0 del a : b|2 ins c 1 : a c b|1 recv 0 3|1 recv 2 2|1 read : c b",
+                                         {in_common.UNSEEN["ins", "del"], in_common.BESIDE, in_common.NAMES_GONE, in_common.TOGETHER}),
+    "beside what is there": (3, f"{ALL_KNOW}|0 ins z 2 : a b z|2 ins c 1 : a c b|1 recv 0 3|1 recv 2 2|1 read : a c b z", {in_common.UNSEEN["ins", "ins"], in_common.TOGETHER}),
+    "a delete over an insert": (2, "0 ins a 0 : a|1 recv 0 1|1 read : a|1 ins b 1 : a b|0 del a :|1 recv 0 2|1 read : b", {in_common.UNSEEN["del", "ins"], in_common.OWN}),
+    "at one place": (2, "0 ins a 0 : a|1 ins b 0 : b|1 recv 0 1|1 read : a b", {in_common.UNSEEN["ins", "ins"], in_common.OWN, in_common.ONE_PLACE}),
+    "while two are on their way": (2, "0 ins a 0 : a|1 ins b 0 : b|1 ins c 1 : b c|1 recv 0 1|1 read : a b c",
+                                   {in_common.UNSEEN["ins", "ins"], in_common.OWN, in_common.SEVERAL_OWN, in_common.ONE_PLACE}),
+    "made after two messages": (2, "0 ins a 0 : a|1 recv 0 1|0 ins b 1 : a b|1 recv 0 2|1 ins c 2 : a b c|0 recv 1 1|0 read : a b c", {in_common.AFTER_SEVERAL}),
+    "made after one, and one that says nothing new": (2, "0 ins a 0 : a|1 recv 0 1|1 recv 0 1|1 ins b 1 : a b|0 recv 1 1|0 read : a b", set()),
+    "an insert where one was deleted": (1, "0 ins a 0 : a|0 ins b 1 : a b|0 ins c 2 : a b c|0 del b : a c|0 ins d 1 : a d c", {in_common.OWN_BESIDE}),
+    "an insert behind what came since": (2, "1 ins x 0 : x|1 ins a 1 : x a|1 del x : a|0 recv 1 3|0 ins b 1 : a b|1 recv 0 1|1 ins c 2 : a b c", {in_common.BEHIND_OTHERS, in_common.AT_END}),
+    "typed on": (1, "0 ins a 0 : a|0 ins b 1 : a b", {in_common.TYPED_ON, in_common.AT_END}),
+    "typed before": (1, "0 ins a 0 : a|0 ins b 0 : b a", {in_common.AT_FRONT}),
+    "between what another one inserted": (2, "0 ins a 0 : a|0 ins b 1 : a b|1 recv 0 2|1 read : a b|1 ins c 1 : a c b", {in_common.BEHIND_OTHERS, in_common.BEFORE_OTHERS}),
+    "behind what no line inserts": (1, "0 ins a 1 : q a", {in_common.AT_END}),
+    "the first deleted": (1, "0 ins a 0 : a|0 ins b 1 : a b|0 del a : b", {in_common.FIRST_GONE}),
+    "the last deleted": (1, "0 ins a 0 : a|0 ins b 1 : a b|0 del b : a", {in_common.LAST_GONE}),
+    "the first deleted, had nothing come before it": (2, "0 ins a 0 : a|0 ins b 1 : a b|1 recv 0 2|1 read : a b|0 ins z 0 : z a b|1 recv 0 3|1 del a : z b", set()),
+}
+CONCURRENT = {"0 ins a 0 : a|1 ins b 0 : b": True, "0 ins a 0 : a|1 recv 0 1|1 ins b 1 : a b": False, "0 ins a 0 : a|1 recv 0 1|1 read : a|0 del a :": False}
+
+
+def seen_session(before: set = frozenset(), last: set = frozenset(), others: tuple = (), has_delete: bool = True, is_concurrent: bool = True) -> in_common.Session:
+    return in_common.Session(set(before), set(last), list(others), has_delete, is_concurrent)
+
+
+def situations(tally: Tally, program: str, folder: str) -> None:
+    """What each situation is, in sessions that were read by hand; which ones stand out, by counts; and which sessions are looked at."""
+    for name, (replicas, entries, wanted, *last_line) in SITUATIONS.items():
+        version = 2 if " view :" in entries else 1
+        text = f"trace {version}\nreplicas {replicas}\n" + "".join(f"{entry}\n" for entry in entries.split("|"))
+        found = in_common.Looking(recordings.Recording(text)).session(*(last_line or [None]))
+        tally.check(f"situations: {name}", found.last == wanted and found.before >= wanted, found)
+    for entries, wanted in CONCURRENT.items():
+        found = in_common.Looking(recordings.Recording("trace 1\nreplicas 2\n" + "".join(f"{entry}\n" for entry in entries.split("|")))).session(None)
+        tally.check(f"situations: {entries}: concurrent", found.is_concurrent == wanted, found)
+    twice, one, own, several, general = in_common.TWICE, in_common.ONE_PLACE, in_common.OWN, in_common.SEVERAL_OWN, in_common.UNSEEN["del", "del"]
+    has, lacks, right = seen_session({twice}), seen_session(), [seen_session(others=[set()] * 6)] * 5
+    for name, failing, passing, wanted in (
+            ("too few pass", [has] * 10, [lacks] * 4, []), ("enough pass", [has] * 10, [lacks] * 5, [(twice, 10, False)]),
+            ("all but one of twenty", [has] * 19 + [lacks], [lacks] * 5, [(twice, 19, False)]), ("all but two of twenty", [has] * 18 + [lacks] * 2, [lacks] * 5, []),
+            ("three, and a third of those that pass", [has] * 3, [has] * 2 + [lacks] * 4, []),
+            ("one that holds wherever another does", [seen_session({general, twice})] * 10, [lacks] * 9, [(twice, 10, False)]),
+            ("several of the receiver's own", [seen_session({own, several})] * 10, [lacks] * 9, [(several, 10, False)]),
+            ("four alike", [seen_session({twice, one, several, in_common.TOGETHER})] * 10, [lacks] * 9, [(name, 10, False) for name in sorted([twice, one, several, in_common.TOGETHER])[:3]]),
+            ("one that tells far less than the first", [seen_session({twice, one})] * 10, [lacks] * 49 + [seen_session({one})] * 49, [(twice, 10, False)]),
+            ("right before, and before", [seen_session({twice}, {twice})] * 10, right, [(twice, 10, True)]),
+            ("right before six of ten", [seen_session({one}, {one})] * 6 + [lacks] * 4, right, [(one, 6, True)]), ("right before five of ten", [seen_session({one}, {one})] * 5 + [lacks] * 5, right, []),
+            ("too few lists", [seen_session({one}, {one})] * 6 + [lacks] * 4, [seen_session(others=[set()] * 2)] * 5, [])):
+        found = [(telling.name, telling.count, telling.is_right_before) for telling in in_common.standing_out(failing, passing)]
+        tally.check(f"standing out: {name}", found == wanted, found)
+    for without, of, told in (1, 5, []), (2, 20, ["2 fail without any delete"]), (2, 21, []), (5, 5, ["5 fail without any delete"]):
+        found = in_common.unneeded([seen_session(has_delete=False)] * without + [lacks] * (of - without))
+        tally.check(f"not needed: {without} of {of}", found == told, found)
+    write(folder, {"twice.trace": BEGUN_TWICE, "once.trace": BEGUN_ONCE, "right.trace": f"{BEGUN_ONCE} b"})
+    Path(folder, "empty.trace").write_text("trace 1\nreplicas 2\n")
+    big = f"{BEGUN_ONCE}|" + "|".join("0 read :" for _ in range(60_000))
+    write(folder, {"big.trace": big})
+
+    def row(name: str, **more: object) -> rows.Row:
+        lines = Path(folder, name).read_text().count("\n")
+        return rows.Row(f"{folder}/{name}", "contents", None, lines, 0.0, 1, None, "", **more)
+
+    wrong, other = row("twice.trace", fails_at=10), row("once.trace", fails_at=8)
+    right_ones = [row("right.trace")._replace(verdict="accepted", unequal=is_unequal) for is_unequal in (None, True)]
+    for name, found, head in (
+            ("also of those that end unequal", in_common.in_common([wrong] * 5 + right_ones * 4), "What 5 failures have in common, beside 8 sessions that pass."),
+            ("not of empty ones", in_common.in_common([wrong] * 5 + [row("empty.trace")._replace(verdict="accepted")] * 9), ""),
+            ("some of many", in_common.in_common([wrong] * 250 + right_ones[:1] * 101), "What 84 of 250 failures have in common, beside 51 of 101 sessions that pass."),
+            ("of many not the first alone", in_common.in_common([wrong] * 125 + [other] * 125 + right_ones[:1] * 50), ""),
+            ("not of big ones", in_common.in_common([row("big.trace", fails_at=8)] * 3 + [wrong] * 57 + right_ones[:1] * 50), "What 58 of 60 failures have in common, beside 50 sessions that pass.")):
+        tally.check(f"in common: {name}", (found[0] if found else "").startswith(head) and bool(found) == bool(head), found)
+
+
 def time_of_common(tally: Tally, program: str, folder: str) -> None:
     """What many have in common is found by some of them: of thousands it takes no longer than of hundreds."""
+    found = []
+    for seed in range(200):
+        path, text = Path(folder, f"{seed}.trace"), planted.session("tie", seed, 40).text()
+        path.write_text(text)
+        row = rows.Row(str(path), "refused", 2, text.count("\n"), 0.0, 1, None, "")
+        found.append(row._replace(fails_at=row.lines) if seed % 2 else row._replace(verdict="accepted"))
     taken = []
-    for number, count in enumerate((300, 3000)):
-        place = Path(folder, str(number))
-        place.mkdir()
-        failing = rows.Row("", "contents", None, 0, 0.0, 1, None, "", fails_at=1)
-        found = []
-        for seed in range(100):
-            text = planted.session("tie", seed, 40).text()
-            (place / f"{seed}.trace").write_text(text)
-            found.append(failing._replace(file=str(place / f"{seed}.trace"), lines=text.count("\n"), fails_at=text.count("\n")))
-        passing = [row._replace(verdict="accepted", fails_at=None) for row in found]
-        many = (found + passing) * (count // 200 or 1)
+    for many in found, found * 15:
         begin = time.process_time()
-        told = in_common.in_common(many)
+        in_common.in_common(many)
         taken.append(time.process_time() - begin)
-        tally.check(f"in common: of {count}, how many were looked at", not told or f"What 100 of {len(many) // 2} failures" in told[0] or len(many) == 200, told)
     tally.check("in common: its time", taken[1] < 3 * taken[0] + 0.5 and taken[1] < 5, taken)
 
 
@@ -2260,7 +2339,7 @@ def main() -> None:
         fails_at(tally, program, third)
         warnings(tally, program, folder)
         warnings_of_sessions(tally, program, other)
-    for check in (what_is_common, time_of_common, converted, asked_once, pythons, left_over, beside_elsewhere, safe_paths, little_memory, not_looked_at, changing, told_of_what_was_judged, explained_once, weak, weak_junit, weak_in_ci,
+    for check in (what_is_common, situations, time_of_common, converted, asked_once, pythons, left_over, beside_elsewhere, safe_paths, little_memory, not_looked_at, changing, told_of_what_was_judged, explained_once, weak, weak_junit, weak_in_ci,
                   known_as_cut, refused_calls, grouped, no_entries, no_files, overwriting, millions_of_names, odd_names, one_way_to_show, odd_words, names_like_commands, tasks, script_of_ci,
                   big_traces, time_of_small, time_of_big, long_cycles):
         with tempfile.TemporaryDirectory() as folder:

@@ -2,7 +2,6 @@
 counts over all sessions; causes.py reads one. Of a failing session the lines count up to the one with which it fails."""
 from __future__ import annotations
 
-from bisect import bisect_left
 from itertools import accumulate
 from math import log
 from typing import NamedTuple
@@ -25,7 +24,7 @@ IN_WORDS = {
     BESIDE: "an insert came whose neighbour was deleted there",
     NAMES_GONE: "a change came that deletes, or stands beside, an element which was deleted there",
     TOGETHER: "several changes came at once",
-    AFTER_SEVERAL: "a change came that its author made when several of others had come since its own last",
+    AFTER_SEVERAL: "a change came that its author made when several messages had come since its own last",
     UNSEEN["ins", "ins"]: "an insert came whose author had not seen an insert that was there",
     UNSEEN["ins", "del"]: "an insert came whose author had not seen a delete that was there",
     UNSEEN["del", "ins"]: "a delete came whose author had not seen an insert that was there",
@@ -41,11 +40,10 @@ IN_WORDS = {
 }
 GENERAL = {ONE_PLACE: {UNSEEN["ins", "ins"]}, SEVERAL_OWN: {OWN}, TWICE: {UNSEEN["del", "del"], NAMES_GONE}, BESIDE: {NAMES_GONE}}  # by a situation, what holds wherever it does
 
-FEWEST = 3  # failing sessions of which something is said, and passing ones
-FEWEST_LISTS = 20  # that are right, likewise
+FEWEST, FEWEST_PASSING, FEWEST_LISTS = 3, 5, 20  # failing sessions of which something is said; passing ones, and lists that are right, beside which it stands out
 NEARLY_ALL, MANY_LISTS = 0.95, 0.6  # shares of failing sessions, and of wrong lists, that have what is told
 TELLING = 0.3  # by how much a share must stand out
-BY_CHANCE = 0.01  # a share as high comes by chance no more often, of a situation that failing needs no more than others
+BY_CHANCE = 0.005  # a share as high comes by chance no more often, of a situation that failing needs no more than others
 UNNEEDED_FROM = 0.1  # the share of failing sessions without it
 MOST_TOLD, LEAST_OF_FIRST = 3, 0.4  # situations, and what part of the first one's weight the others have at least
 MOST_SESSIONS, MOST_BYTES = 100, 1_000_000  # that are looked at, of failing and of passing ones each
@@ -53,12 +51,13 @@ MOST_SESSIONS, MOST_BYTES = 100, 1_000_000  # that are looked at, of failing and
 
 class Session(NamedTuple):
     """The situations of a session, or of its lines up to the one with which it fails: all of them, those right before the last list, and those right
-    before each of the other lists that show something new; and whether anything was deleted."""
+    before each of the other lists that show something new; whether anything was deleted; and whether two changes did not know of each other."""
 
     before: set
     last: set
     others: list
     has_delete: bool
+    is_concurrent: bool
 
 
 class Telling(NamedTuple):
@@ -79,8 +78,10 @@ class Looking:
         self.clocks, self.shown, self.since = [[0] * count for _ in range(count)], [[] for _ in range(count)], [set() for _ in range(count)]
         self.with_deleted = [[] for _ in range(count)]  # what each replica shows and has shown, in this order
         self.came = [0] * count  # changes since its last list
+        self.messages = [0] * count  # that brought some since its last change
         self.last_insert = [""] * count
-        self.after_several = {change.key for stream, receipts in zip(recording.streams, recording.receipts) for change in after_several(stream, receipts)}
+        self.after_several = set()
+        self.is_concurrent = False  # whether two changes were made of which neither author had seen the other
         self.counts = {kind: [list(accumulate((one.kind == kind for one in stream), initial=0)) for stream in recording.streams] for kind in ("ins", "del")}
 
     def session(self, last_line: int | None) -> Session:
@@ -93,20 +94,22 @@ class Looking:
                 continue
             has_delete |= entry.kind == "del"
             self.act(entry)
+            if entry.kind != "view" and (self.since[entry.replica] or self.came[entry.replica] or entry.element) or entry.line == last_line:
+                lists.append(self.since[entry.replica])
             if entry.kind != "view":
-                if self.since[entry.replica] or self.came[entry.replica] or entry.element or entry.line == last_line:
-                    lists.append(self.since[entry.replica])
                 self.show(entry)
-        return Session(set().union(*lists, *self.since), lists[-1] if lists else set(), lists[:-1], has_delete)
+        return Session(set().union(*lists, *self.since), lists[-1] if lists else set(), lists[:-1], has_delete, self.is_concurrent)
 
     def take(self, receipt: Receipt) -> None:
         replica, has = receipt.replica, self.clocks[receipt.replica]
         news = [change for author, stream in enumerate(self.recording.streams) if author != replica
                 for change in stream[has[author]:receipt.seen.clock[author]] if change.element]
-        for change in news:
+        for change in sorted(news, key=lambda change: change.line):
             found = self.of_change(change, replica)
             self.since[replica] |= found | ({NAMES_GONE} if found & {TWICE, BESIDE} else set())
+            has[change.replica] = change.n
         self.came[replica] += len(news)
+        self.messages[replica] += bool(news)
         self.since[replica] |= {TOGETHER} if self.came[replica] > 1 else set()
         self.clocks[replica] = [max(pair) for pair in zip(has, receipt.seen.clock)]
 
@@ -123,8 +126,7 @@ class Looking:
         found |= {SEVERAL_OWN} if own > 1 else set()
         found |= {AFTER_SEVERAL} if change.key in self.after_several else set()
         if change.kind == "del":
-            is_twice = any(other is not change and has[other.replica] >= other.n for other in self.recording.deletes[change.element])
-            return found | ({TWICE} if is_twice else set())
+            return found | ({TWICE} if self.is_deleted(change.element, replica) else set())
         return found | self.of_place(change, replica)
 
     def of_place(self, insert: Operation, replica: int) -> set:
@@ -133,7 +135,7 @@ class Looking:
             return set()
         place = names.index(insert.element)
         beside = names[max(place - 1, 0):place] + names[place + 1:place + 2]
-        found = {BESIDE} if any(name not in shown and self.is_deleted(name, replica) for name in beside) else set()
+        found = {BESIDE} if any(self.is_deleted(name, replica) for name in beside) else set()
         begin = -1 if place == 0 else shown.index(names[place - 1]) if names[place - 1] in shown else None
         end = len(shown) if place + 1 == len(names) else shown.index(names[place + 1]) if names[place + 1] in shown else None
         return found | ({ONE_PLACE} if begin is not None and end is not None and end - begin > 1 else set())
@@ -142,27 +144,39 @@ class Looking:
         return any(self.clocks[replica][delete.replica] >= delete.n for delete in self.recording.deletes.get(name, ()))
 
     def is_of_another(self, name: str, replica: int) -> bool:
-        return all(insert.replica != replica for insert in self.recording.inserts.get(name, ()))
+        return any(insert.replica != replica for insert in self.recording.inserts.get(name, ()))
 
     def act(self, operation: Operation) -> None:
         """What a replica's own change is like."""
-        replica, found = operation.replica, self.since[operation.replica]
-        self.clocks[replica] = list(operation.clock)
-        if operation.kind == "del" and operation.element in self.shown[replica]:
-            shown = self.shown[replica]
-            found |= ({FIRST_GONE} if shown[0] == operation.element else set()) | ({LAST_GONE} if shown[-1] == operation.element else set())
-        names = operation.response if operation.kind == "ins" else []
-        if operation.element in names:
-            place, known = names.index(operation.element), self.with_deleted[replica]
-            begin = known.index(names[place - 1]) if place and names[place - 1] in known else -1
-            end = known.index(names[place + 1]) if place + 1 < len(names) and names[place + 1] in known else len(known)
-            found |= {OWN_BESIDE} if any(self.is_deleted(name, replica) for name in known[begin + 1:end]) else set()
-            found |= {AT_FRONT} if place == 0 else set()
-            found |= {AT_END} if place + 1 == len(names) else set()
-            found |= {TYPED_ON} if place and names[place - 1] == self.last_insert[replica] else set()
-            found |= {BEHIND_OTHERS} if place and self.is_of_another(names[place - 1], replica) else set()
-            found |= {BEFORE_OTHERS} if place + 1 < len(names) and self.is_of_another(names[place + 1], replica) else set()
+        replica = operation.replica
+        if operation.element:
+            made = [clock[author] for author, clock in enumerate(self.clocks)]  # operations of each
+            self.is_concurrent |= any(self.unseen(kind, author, operation, made) for kind in ("ins", "del") for author in range(len(made)) if author != replica)
+            self.after_several |= {operation.key} if self.messages[replica] > 1 else set()
+            self.messages[replica] = 0
+        if operation.kind == "del":
+            self.since[replica] |= self.of_own_delete(operation)
+        if operation.kind == "ins" and operation.element in operation.response:
+            self.since[replica] |= self.of_own_insert(operation)
             self.last_insert[replica] = operation.element
+        self.clocks[replica] = list(operation.clock)
+
+    def of_own_delete(self, delete: Operation) -> set:
+        """At which end it stood in the list that was shown last, where nothing came since."""
+        shown = [] if self.came[delete.replica] else self.shown[delete.replica]
+        return {name for name, one in ((FIRST_GONE, shown[:1]), (LAST_GONE, shown[-1:])) if one == [delete.element]}
+
+    def of_own_insert(self, insert: Operation) -> set:
+        replica, names, known = insert.replica, insert.response, self.with_deleted[insert.replica]
+        place = names.index(insert.element)
+        left, right = names[max(place - 1, 0):place], names[place + 1:place + 2]
+        found = {AT_FRONT} if not left else {BEHIND_OTHERS} if self.is_of_another(left[0], replica) else set()
+        found |= {AT_END} if not right else {BEFORE_OTHERS} if self.is_of_another(right[0], replica) else set()
+        found |= {TYPED_ON} if left == [self.last_insert[replica]] else set()
+        if all(name in known for name in left + right):  # else they came since the last list
+            begin, end = known.index(left[0]) if left else -1, known.index(right[0]) if right else len(known)
+            found |= {OWN_BESIDE} if any(self.is_deleted(name, replica) for name in known[begin + 1:end]) else set()
+        return found
 
     def show(self, operation: Operation) -> None:
         """A new list: what is new in it stands, among what was shown before, behind the one before it."""
@@ -172,23 +186,16 @@ class Looking:
         for name in self.shown[replica]:
             if name not in has:
                 known.insert(known.index(before) + 1 if before is not None else 0, name)
+                has.add(name)
             before = name
 
 
-def after_several(stream: list, receipts: list) -> list:
-    """The changes of a replica that it made when several receipts had come since its change before."""
-    found, before, places = [], 0, [receipt.before for receipt in receipts]
-    for change in (operation for operation in stream if operation.element):
-        found += [change] if bisect_left(places, change.n) - bisect_left(places, before) > 1 else []
-        before = change.n
-    return found
-
-
-def weight(share: float, other: float) -> float:
-    """By how much a share stands out above another, 0 where it does not: the information of the one beside the other."""
+def weight(share: float, count: int, of: int) -> float:
+    """By how much a share stands out above that of so many others, 0 where it does not: the information of the one beside the other. Of the others
+    one more is taken for such a one, and one for none, since few may be so by chance."""
+    other = (count + 1) / (of + 2)
     if share <= other:
         return 0.0
-    other = max(other, 0.01)
     return share * log(share / other) + ((1 - share) * log((1 - share) / (1 - other)) if share < 1 else 0.0)
 
 
@@ -196,14 +203,12 @@ def standing_out(failing: list, passing: list) -> list:
     """The situations that stand out, the most telling first; of what holds wherever another does that is told, nothing."""
     found, lists = [], [one for session in failing + passing for one in session.others] + [session.last for session in passing]
     for name in IN_WORDS:
-        count = sum(name in session.before for session in failing)
-        others = sum(name in session.before for session in passing)
-        if len(passing) >= FEWEST and count >= NEARLY_ALL * len(failing):
-            found.append(Telling(weight(count / len(failing), others / len(passing)), name, count, False, f"in {others} of those that pass"))
-        count = sum(name in session.last for session in failing)
-        share = sum(name in one for one in lists) / max(len(lists), 1)
+        count, others = (sum(name in session.before for session in sessions) for sessions in (failing, passing))
+        if len(passing) >= FEWEST_PASSING and count >= NEARLY_ALL * len(failing):
+            found.append(Telling(weight(count / len(failing), others, len(passing)), name, count, False, f"in {others} of those that pass"))
+        count, others = sum(name in session.last for session in failing), sum(name in one for one in lists)
         if len(lists) >= FEWEST_LISTS and count >= MANY_LISTS * len(failing):
-            found.append(Telling(weight(count / len(failing), share), name, count, True, f"before {round(100 * share)} % of the lists that are right"))
+            found.append(Telling(weight(count / len(failing), others, len(lists)), name, count, True, f"before {round(100 * others / len(lists))} % of the lists that are right"))
     least = max(TELLING, -log(BY_CHANCE) / len(failing))
     general = set().union(*GENERAL.values())
     told = []
@@ -216,25 +221,23 @@ def standing_out(failing: list, passing: list) -> list:
 def unneeded(failing: list) -> list:
     """What a failure does not need, with how many fail without it."""
     without = {"any delete": sum(not session.has_delete for session in failing),
-               "changes that don't know of each other": sum(not session.before.intersection(UNSEEN.values()) for session in failing)}
+               "changes that don't know of each other": sum(not session.is_concurrent for session in failing)}
     return [f"{count} fail without {what}" for what, count in without.items() if count >= max(UNNEEDED_FROM * len(failing), 2)]
 
 
 def in_common(rows: list) -> list:
     """What the failing ones of these sessions have in common, in words, a line each; of many some are looked at. None where there are few, or nothing
-    stands out."""
-    wrong, right = [row for row in rows if row.fails_at], [row for row in rows if row.passes and not row.unequal]
+    stands out. What passes, but ends unequal, passes."""
+    wrong, right = [row for row in rows if row.fails_at], [row for row in rows if row.passes]
     failing = sessions(wrong, True) if len(wrong) >= FEWEST else []
-    if len(failing) < FEWEST:
-        return []
-    passing = sessions(right, False)
+    passing = sessions(right, False) if len(failing) >= FEWEST else []
     lines = []
-    for one in standing_out(failing, passing):
+    for one in standing_out(failing, passing) if len(failing) >= FEWEST else []:
         which = "each" if one.count == len(failing) else f"{one.count} of them"
         lines.append(f"  {'right before' if one.is_right_before else 'before'} {which}: {IN_WORDS[one.name]} ({one.others})")
     without = unneeded(failing) if lines else []
     lines += [f"  not needed: {', '.join(without)}"] if without else []
-    beside = f", beside {counted(passing, right, 'session')} that pass{'' if passing[1:] else 'es'}" if passing else ""
+    beside = f", beside {counted(passing, right, 'session')} that pass{'' if right[1:] else 'es'}" if passing else ""
     return [f"What {counted(failing, wrong, 'failure')} have in common{beside}. Look first at what your editor does then; these are counts, and the first line tells most:",
             *lines] if lines else []
 
@@ -244,22 +247,21 @@ def counted(looked_at: list, rows: list, what: str) -> str:
 
 
 def sessions(rows: list, are_failing: bool) -> list:
-    """Some of these, evenly chosen, but for those that can't be read any more, or are others by now."""
+    """Some of these, evenly chosen, but for those that are empty, can't be read any more, are others by now, or for which there is no room."""
     found, room = [], MOST_BYTES
     for row in rows[::-(-len(rows) // MOST_SESSIONS) or 1]:
         try:
-            text = read_file(row.file, MOST_BYTES).decode()
+            text = read_file(row.file, room).decode()
         except (Unread, ValueError):
             continue
         room -= len(text)
-        if room < 0:
-            break
         found += session_of(row, text, are_failing)
     return found
 
 
 def session_of(row: Row, text: str, is_failing: bool) -> list:
     try:
-        return [Looking(Recording(text)).session(row.fails_at if is_failing else None)] if text.count("\n") == row.lines else []
+        session = Looking(Recording(text)).session(row.fails_at if is_failing else None) if text.count("\n") == row.lines else None
     except (ValueError, LookupError):  # it is another by now
-        return []
+        session = None
+    return [session] if session and (session.last or session.others) else []
