@@ -1887,7 +1887,7 @@ def first_told(tally: Tally, program: str, folder: str) -> None:
             told = explain(program, [*(["--editor", kind] if kind else []), str(path)]).out.decode()
             tally.check(f"first told: {kind}: what another had deleted came back, by {what}", (words in told) == (kind != "positions") and (
                 f"since then it received 2.{2 + (what == 'several')} (line {line})\n  that brought: {brought}\n") in told, told)
-    rivals = "b and a were inserted at one place without knowing of each other: look also at which of them comes first, by a rule that never ties (such as by the replicas' numbers, not by letters)"
+    rivals = "b and a were inserted into one gap without knowing of each other: look also at which of them comes first, by a rule that never ties (such as by the replicas' numbers, not by letters)"
     for what, entries, is_rival in (
             ("into nothing", "0 ins a 0 : a|1 ins b 0 : b|0 del a :|1 recv 0 1|1 read : b a|1 recv 0 2|1 read : a", True),
             ("beside what the other had not", "0 ins x 0 : x|0 ins a 1 : x a|1 ins c 0 : c|1 ins b 0 : b c|0 del a : x|1 recv 0 2|1 read : x b a c|1 recv 0 3|1 read : x a c", True),
@@ -1896,6 +1896,24 @@ def first_told(tally: Tally, program: str, folder: str) -> None:
         for kind in "positions", "tree":
             told = explain(program, ["--editor", kind, str(path)]).out.decode()
             tally.check(f"first told: {kind}: a delete of one of two at a place, {what}", "deleted b instead of a" in told and (rivals in told) == (is_rival and kind == "positions"), told)
+    older = "0 ins a 0 : a|0 ins b 1 : a b|0 ins c 2 : a b c|0 ins d 3 : a b c d|1 recv 0 4|1 read : a b c d|2 recv 0 4|2 read : a b c d|0 del a : b c d|1 recv 0 5|1 read : b c d"
+    path.write_text(text_of(3, f"{older}|2 ins z 4 : a b c d z|1 recv 2 2|1 read : a b c d z"))
+    told = explain(program, ["--editor", "neighbours", str(path)]).out.decode()
+    tally.check("first told: what came back at the other end of what came", "a came back, which was deleted at replica 1 before, by 0.5 (line 11), and not shown in 1.2 (line 13). Look at what applies that: is an element that is "
+                "marked as deleted shown again" in told and "split" not in told, told)
+    range_of = "0 ins a 0 : a|0 ins b 1 : a b|2 recv 0 2|1 recv 0 2|1 read : a b|1 ins c 1 : a c b"
+    for what, entries in ("of two authors", "|0 del a : b|2 del b : a|1 recv 0 3|1 recv 2 1|1 read :"), ("a single one", "|0 del a : b|1 recv 0 3|1 read : b"):
+        path.write_text(text_of(3, f"{range_of}{entries}"))
+        told = explain(program, [str(path)]).out.decode()
+        tally.check(f"first told: deletes that are no range, {what}", "deleted c along with a" in told and "what deletes a range" not in told, told)
+    gone = "0 ins a 0 : a|0 ins b 1 : a b|0 ins c 2 : a b c|0 ins d 3 : a b c d|1 recv 0 4|1 read : a b c d|2 recv 0 4"
+    both = "|1 del a : b c d|0 del a : b c d|1 del b : c d|0 del b : c d"
+    for what, entries, last in (("the last of two", f"{both}|0 recv 1 2|0 recv 1 3|0 read : c d", "Before that, b was deleted at replica 0 more than once: by 0.6 (line 13), and by 1.3, which came in line 15."),
+                               ("and one elsewhere", f"{both}|0 recv 1 2|1 recv 0 6|1 read : c d|0 read : c d",
+                                "Before that, a was deleted at replica 0 more than once: by 0.5 (line 11), and by 1.2, which came in line 14.")):
+        path.write_text(text_of(3, f"{gone}{entries}|0 ins e 1 : c d e|0 recv 1 3"))
+        told = explain(program, ["--editor", "tree", str(path)]).out.decode()
+        tally.check(f"first told: an element that was deleted twice, {what}", last in told and told.count("more than once") == 1, told)
     unseen = "The author of 0.3 and 0.4 had not seen c: what deletes a range, by elements or positions, must leave out what its author had not seen."
     for what, entries in ("had not seen", ""), ("had seen", "|0 recv 1 2|0 read : a c b"):
         path.write_text(text_of(2, f"0 ins a 0 : a|0 ins b 1 : a b|1 recv 0 2|1 read : a b|1 ins c 1 : a c b{entries}|0 del a : {'c b' if entries else 'b'}|0 del b :{' c' if entries else ''}|"
@@ -1904,7 +1922,7 @@ def first_told(tally: Tally, program: str, folder: str) -> None:
         tally.check(f"first told: a range whose deletes took what their author {what}", "deleted c along with a and b" in told and (unseen in told) == (not entries), told)
     path.write_text(text_of(3, "0 ins a 0 : a|2 recv 0 1|2 read : a|1 recv 0 1|1 read : a|0 ins b 1 : a b|1 ins c 1 : a c|2 recv 1 2|2 read : a c|0 recv 1 2|0 read : a b c|1 del a : c|2 recv 1 3|2 read : a|"
                                "1 recv 0 2|1 read : c|2 recv 0 2|2 read : a"))
-    sent = "Look first at whether replica 0 has sent 0.2 (line 8) at all: no receipt anywhere names it, but for those of `delivered`."
+    sent = "Look first at whether replica 0 has sent 0.2 (line 8) at all: no receipt anywhere names it, but for those that `delivered` wrote."
     for beside, is_told in ("20\ndelivered 17 20\n", True), ("20\n", False):
         Path(f"{path}.lines").write_text(beside)
         told = explain(program, ["--editor", "positions", str(path)]).out.decode()

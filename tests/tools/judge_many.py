@@ -439,6 +439,12 @@ def what_is_common(tally: Tally, program: str, folder: str) -> None:
         without = {words for words in ("any delete", "changes that don't know of each other") if f"fail without {words}" in done.stdout}
         needless = {"clock": {"any delete", "changes that don't know of each other"}, "tie": {"any delete"}, "behind": {"any delete"}}  # the others need both
         tally.check(f"in common: planted: {bug}: what it does not need", without == needless.get(bug, set()), done)
+    page = (ROOT / "docs" / "many.md").read_text().split("\n    ")
+    for seed in range(100):
+        Path(folder, "unmoved", f"{seed}.trace").write_text(planted.session("unmoved", seed).text())
+    done = subprocess.run([TOOL, "--program", program, "--weak", "--failing", f"{folder}/unmoved"], capture_output=True, text=True)
+    shown = [line for line in page if line.startswith(("What 83 failures", "  right before 64"))]
+    tally.check("in common: as the page shows it", len(shown) == 2 and done.stdout.endswith("\n\n" + "\n".join(line.partition("\n\n")[0] for line in shown) + "\n"), (shown, done))
     Path(folder, "twice", "0.trace").unlink()
     row = rows.Row(f"{folder}/twice/0.trace", "contents", None, 9, 0.0, 1, None, "", fails_at=9)
     tally.check("in common: of traces that are gone, or are others by now", in_common.in_common([row] * 9 + [row._replace(file=f"{folder}/twice/1.trace", lines=3)] * 9) == [])
@@ -456,6 +462,8 @@ SITUATIONS = {
     "a delete of what another one deletes elsewhere": (3, "0 ins a 0 : a|1 recv 0 1|2 recv 0 1|2 read : a|0 del a :|1 del a :|2 recv 0 2|2 read :", set()),
     "beside what came and was deleted": (3, f"{ALL_KNOW}|0 del a : b|2 ins c 1 : a c b|1 recv 0 3|1 recv 2 2|1 read : c b",
                                          {in_common.UNSEEN["ins", "del"], in_common.BESIDE, in_common.NAMES_GONE, in_common.TOGETHER}),
+    "beside what came deleted in one update": (3, f"{ALL_KNOW}|0 del a : b|2 ins c 1 : a c b|2 recv 0 3|2 read : c b|1 recv 2 3|1 read : c b",
+                                               {in_common.UNSEEN["ins", "del"], in_common.BESIDE, in_common.NAMES_GONE, in_common.TOGETHER}),
     "beside what is there": (3, f"{ALL_KNOW}|0 ins z 2 : a b z|2 ins c 1 : a c b|1 recv 0 3|1 recv 2 2|1 read : a c b z", {in_common.UNSEEN["ins", "ins"], in_common.TOGETHER}),
     "a delete over an insert": (2, "0 ins a 0 : a|1 recv 0 1|1 read : a|1 ins b 1 : a b|0 del a :|1 recv 0 2|1 read : b", {in_common.UNSEEN["del", "ins"], in_common.OWN}),
     "at one place": (2, "0 ins a 0 : a|1 ins b 0 : b|1 recv 0 1|1 read : a b", {in_common.UNSEEN["ins", "ins"], in_common.OWN, in_common.ONE_PLACE}),
@@ -487,6 +495,9 @@ def situations(tally: Tally, program: str, folder: str) -> None:
         text = f"trace {version}\nreplicas {replicas}\n" + "".join(f"{entry}\n" for entry in entries.split("|"))
         found = in_common.Looking(recordings.Recording(text)).session(*(last_line or [None]))
         tally.check(f"situations: {name}", found.last == wanted and found.before >= wanted, found)
+    with_view, without = (in_common.Looking(recordings.Recording(f"trace 2\nreplicas 2\n{entries}\n".replace("|", "\n"))).session(None)
+                          for entries in (f"{TWO_DELETES}|1 view :|1 read :", f"{TWO_DELETES}|1 read :"))
+    tally.check("situations: a view is no list", with_view == without and len(without.others) == 4, with_view)
     for entries, wanted in CONCURRENT.items():
         found = in_common.Looking(recordings.Recording("trace 1\nreplicas 2\n" + "".join(f"{entry}\n" for entry in entries.split("|")))).session(None)
         tally.check(f"situations: {entries}: concurrent", found.is_concurrent == wanted, found)
@@ -496,6 +507,7 @@ def situations(tally: Tally, program: str, folder: str) -> None:
             ("too few pass", [has] * 10, [lacks] * 4, []), ("enough pass", [has] * 10, [lacks] * 5, [(twice, 10, False)]),
             ("all but one of twenty", [has] * 19 + [lacks], [lacks] * 5, [(twice, 19, False)]), ("all but two of twenty", [has] * 18 + [lacks] * 2, [lacks] * 5, []),
             ("three, and a third of those that pass", [has] * 3, [has] * 2 + [lacks] * 4, []),
+            ("three, and one of eight that pass", [has] * 3, [has] + [lacks] * 7, []),
             ("one that holds wherever another does", [seen_session({general, twice})] * 10, [lacks] * 9, [(twice, 10, False)]),
             ("several of the receiver's own", [seen_session({own, several})] * 10, [lacks] * 9, [(several, 10, False)]),
             ("four alike", [seen_session({twice, one, several, in_common.TOGETHER})] * 10, [lacks] * 9, [(name, 10, False) for name in sorted([twice, one, several, in_common.TOGETHER])[:3]]),
@@ -522,10 +534,13 @@ def situations(tally: Tally, program: str, folder: str) -> None:
     for name, found, head in (
             ("also of those that end unequal", in_common.in_common([wrong] * 5 + right_ones * 4), "What 5 failures have in common, beside 8 sessions that pass."),
             ("not of empty ones", in_common.in_common([wrong] * 5 + [row("empty.trace")._replace(verdict="accepted")] * 9), ""),
+            ("not of what is unread", in_common.in_common([wrong._replace(verdict="unread", fails_at=None)] * 5 + right_ones * 4), ""),
             ("some of many", in_common.in_common([wrong] * 250 + right_ones[:1] * 101), "What 84 of 250 failures have in common, beside 51 of 101 sessions that pass."),
             ("of many not the first alone", in_common.in_common([wrong] * 125 + [other] * 125 + right_ones[:1] * 50), ""),
             ("not of big ones", in_common.in_common([row("big.trace", fails_at=8)] * 3 + [wrong] * 57 + right_ones[:1] * 50), "What 58 of 60 failures have in common, beside 50 sessions that pass.")):
         tally.check(f"in common: {name}", (found[0] if found else "").startswith(head) and bool(found) == bool(head), found)
+    found = in_common.in_common([wrong] * 39 + [other] + right_ones[:1] * 9)
+    tally.check("in common: of most", any(line.startswith("  before 39 of them: a delete came whose element") for line in found), found)
 
 
 def time_of_common(tally: Tally, program: str, folder: str) -> None:

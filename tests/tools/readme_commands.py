@@ -40,7 +40,7 @@ NOT_RUN = {
 }
 
 # What README says that an editor may promise: how each line begins, and what it says, with its source.
-PROMISES = {"RGA, YATA ": ["both", "proved of RGA (Attiya and others)"],
+PROMISES = {"RGA, YATA, Fugue ": ["both", "proved of RGA (Attiya and others)"],
             "Jupiter ": ["weak alone", "strong fails (proved by the same)", 'weak holds (Wei, Huang, Lu, "Specification and Implementation of '
                          'Replicated List: The Jupiter Protocol Revisited", OPODIS 2018)'],
             "adOPTed (libinfinity); ProseMirror; whole states sent ": ["(docs/gallery.md)", "what fails, never that something holds"]}

@@ -15,7 +15,7 @@ MOST_EMPTIED = 3  # deletes that became nothing before the fault: where more did
 MOST_MET = 6  # changes for which a position was perhaps not adjusted
 LOST = ("Look first at whether {changes} {were} lost on {their} way to replica {replica}, or overtaken: no receipt there names {them}, though {others}. "
         "In an editor that sends positions, later changes then land in the wrong place.")
-NEVER_SENT = ("Look first at whether replica {author} has sent {changes} at all: no receipt anywhere names {them}, but for those of `delivered`. In an editor that sends positions, later changes then land in the "
+NEVER_SENT = ("Look first at whether replica {author} has sent {changes} at all: no receipt anywhere names {them}, but for those that `delivered` wrote. In an editor that sends positions, later changes then land in the "
               "wrong place.")
 OTHERS_HAVE = "all other changes of replica {author} have one"
 ELSEWHERE_ONE = {True: "at another replica it has one", False: "at other replicas they have some"}

@@ -50,7 +50,7 @@ WRONG_DELETE = ("It looks as if {delete}, applied at replica {replica}, deleted 
                 "delete finds the element, and at whether the recorder writes the name of the element that was deleted.")
 WRONG_LOCAL_DELETE = ("It looks as if {delete} deleted {missing} instead of {surplus}: look at how a local delete finds the element, and at whether the recorder writes the name "
                       "of the element that was deleted.")
-RIVALS = (" {missing} and {element} were inserted at one place without knowing of each other: look also at which of them comes first, by a rule that never ties (such as by the replicas' numbers, not by letters) and is "
+RIVALS = (" {missing} and {element} were inserted into one gap without knowing of each other: look also at which of them comes first, by a rule that never ties (such as by the replicas' numbers, not by letters) and is "
           "the same on both sides; else the delete hits the other one.")
 WRONG_POSITION = ("It looks as if {delete}, applied at replica {replica}, deleted {missing} instead of {surplus}: look at how its position is adjusted there, also for changes "
                   "of the replica's own that its author had not seen; and at whether the recorder writes the name of the element that was deleted.")
@@ -402,7 +402,7 @@ def too_much(evidence: Evidence) -> list:
     told = TOO_MUCH.format(deletes=listed(list(map(at, deletes)), MOST_TOLD), applied=applied, missing=listed(evidence.missing, MOST_TOLD),
                            before=at(before), it="them" if evidence.missing[1:] else "it", theirs=listed(list(dict.fromkeys(delete.element for delete in deletes)), MOST_TOLD))
     inserts = [insert for name in evidence.missing for insert in evidence.recording.inserts[name]]
-    is_unseen = not any(delete.has_seen(insert) for delete in deletes for insert in inserts)
+    is_unseen = deletes[1:] and len({delete.replica for delete in deletes}) == 1 and not any(delete.has_seen(insert) for delete in deletes for insert in inserts)
     return [Cause("too much", told + (NOT_SEEN.format(changes=listed([delete.name for delete in deletes], MOST_TOLD), missing=listed(evidence.missing, MOST_TOLD)) if is_unseen else ""))]
 
 
@@ -432,7 +432,9 @@ def look_of_back(evidence: Evidence, came: list, is_own: bool) -> str:
     """Where to look when an element came back: by the kind of the editor, and by whether what came changes others."""
     if is_own and is_possible("positions", evidence.kind):
         return OWN_ADJUSTED
-    others = [change for change in came if change.element not in evidence.surplus]
+    shown = evidence.operations[0].response
+    beside = {name for place, name in enumerate(shown) if {*shown[max(place - 1, 0):place + 2]} & {*evidence.surplus}}
+    others = [change for change in came if change.element not in evidence.surplus and (change.kind == "del" or change.element in beside)]
     if not others:
         return SHOWN_AGAIN
     one = f"the {'insert' if others[0].kind == 'ins' else 'delete'} of {others[0].element} does"

@@ -26,7 +26,7 @@ from .rows import KINDS, NO_VERDICTS, Request, Row, failed
 from .warnings import SAVED, is_first
 
 NAME = "domepeeler-judge-many"
-ABOUT = ("Judges all traces below some folders, several at a time, and lists them: first the one that fails in the fewest lines; of failures that look alike the first, and how many more (alike). "
+ABOUT = ("Judges all traces below some folders, several at a time, and lists them: first the one that fails in the fewest lines. Failures that look alike share a row, and alike counts the others. "
          "Then it says what failures have in common, beside what passes.")
 STATUSES = ("It ends with status 0 where all are accepted, 1 where all can be read and some are not accepted, and 2 where one can't "
             "be read or is known to be cut (whatever its lines show), or would pass though a call that was to record it was refused, or may be lacking (what a stopped "
