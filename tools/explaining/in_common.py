@@ -116,7 +116,7 @@ class Looking:
     def unseen(self, kind: str, author: int, change: Operation, has: list) -> int:
         """How many changes of this kind of an author are where a change comes to, and were not where it was made."""
         counts = self.counts[kind][author]
-        return max(counts[has[author]] - counts[change.clock[author]], 0)
+        return counts[has[author]] - counts[change.clock[author]]  # what its author had seen has come before it
 
     def of_change(self, change: Operation, replica: int) -> set:
         has, authors = self.clocks[replica], [author for author in range(self.recording.replicas) if author != change.replica]
