@@ -12,7 +12,6 @@ mod guess;
 mod tested;
 
 use events::Memory;
-use fresh::fresh_parts;
 use guess::{Guess, guess_components};
 use list_search::{PlainBound, Scratch, search};
 use order_graph::OrderGraph;
@@ -23,8 +22,8 @@ use tested::is_right;
 /// with others.
 ///
 /// The components are guessed, and the guess is tested in one pass over the places. All of it takes time and
-/// memory linear in the elements, the lists and the places. If the guess were wrong, a search from each
-/// element would tell, which takes long, but no other answer comes of it.
+/// memory linear in the elements and the places. If the guess were wrong, a search from each element would
+/// tell, which takes long, but no other answer comes of it.
 pub fn elements_on_cycles(alloc: Global, graph: &OrderGraph) -> Result<Vec<u32>, Memory>
     ensures rising { IfOk result (λ v. AllPairs (λ x y. x < y) v.items) }
     ensures known { IfOk result (λ v. All (λ x. x < length graph.now.elements) v.items) }
@@ -46,11 +45,8 @@ fn marks_on_cycles(alloc: Global, graph: &OrderGraph) -> Result<Vec<bool>, Memor
 {
     // Its contract has that the responses are proper.
     let _ = graph.elements();
-    let parts = fresh_parts(alloc, graph)?;
-    let guess = guess_components(alloc, graph, parts.as_slice())?;
-    let right = is_right(alloc, graph, parts.as_slice(), &guess)?;
-    drop(parts);
-    if !right {
+    let guess = guess_components(alloc, graph)?;
+    if !is_right(alloc, graph, &guess)? {
         return searched_marks(alloc, graph);
     }
     let Guess {

@@ -1,6 +1,6 @@
 //! The edges between neighbouring places of the lists, which a search takes one by one.
 
-use super::fresh::Fresh;
+use super::fresh::fresh_of;
 use crate::guesses::{NONE, at, put};
 use events::Memory;
 use order_graph::OrderGraph;
@@ -19,14 +19,14 @@ pub struct Edges {
 }
 
 impl Edges {
-    /// The edges of a graph, as the lists go. It goes twice over the part of each list that is to be looked at;
-    /// memory is linear in the elements and the edges.
-    pub fn of(alloc: Global, graph: &OrderGraph, parts: &[Fresh]) -> Result<Edges, Memory> {
+    /// The edges of a graph, as the lists go. It goes over all places twice, but for those that a list shows as
+    /// the one before it does; memory is linear in the elements and the edges.
+    pub fn of(alloc: Global, graph: &OrderGraph) -> Result<Edges, Memory> {
         let elements = graph.elements() as usize;
         let mut next = Vec::from_elem(alloc, 0, elements)?;
         let mut last = Vec::from_elem(alloc, NONE, elements)?;
         for list in 0..graph.lists() {
-            count_edges(part_of(graph, parts, list), &mut last, &mut next);
+            count_edges(fresh_part(graph, list), &mut last, &mut next);
         }
         let count = begins_of(&mut next);
         let mut edges = Edges {
@@ -36,7 +36,7 @@ impl Edges {
         };
         last.fill(NONE);
         for list in 0..graph.lists() {
-            edges.add_list(part_of(graph, parts, list), &mut last);
+            edges.add_list(fresh_part(graph, list), &mut last);
         }
         Ok(edges)
     }
@@ -102,16 +102,10 @@ impl Edges {
     }
 }
 
-/// The part of a list that is to be looked at; where none is told, all of it.
-fn part_of<'a>(graph: &'a OrderGraph, parts: &[Fresh], list: u32) -> &'a [u32] {
-    let row = graph.list(list);
-    match parts.get(list as usize) {
-        Some(part) => {
-            let to = part.to.min(row.len());
-            &row[part.from.saturating_sub(1).min(to)..to]
-        }
-        None => row,
-    }
+/// The part of a list whose edges the list before it may lack.
+fn fresh_part(graph: &OrderGraph, list: u32) -> &[u32] {
+    let fresh = fresh_of(graph, list);
+    &graph.list(list)[fresh.from - 1..fresh.to]
 }
 
 /// Counts the edges of a list, each for the element that it goes from.

@@ -1,15 +1,12 @@
 //! What a list shows beyond the list before it: those that grow show most of what the one before shows.
 
 ghost use Rattle.std.specs.Prelude.{true, ◌≡◌, ℕ, ◌+◌, ◌<◌, ◌≤◌, length, slice_index, take, drop};
-ghost use Rattle.std.specs.Prelude.{IfOk, vec_len};
 ghost use Rattle.std.specs.Simd.Lanes.{mask_l};
 ghost use Rattle.order_graph.specs.Lists.{lists_of, row};
 ghost use Rattle.events.specs.SameNames.{unlike};
-ghost use Rattle.level_search.specs.Fresh.{AreParts, AreSameFrom, IsFresh};
+ghost use Rattle.level_search.specs.Fresh.{AreSameFrom, IsFresh};
 
-use events::Memory;
 use order_graph::OrderGraph;
-use std::alloc::Global;
 use std::simd::prelude::*;
 
 /// How many places are compared at once.
@@ -25,21 +22,9 @@ pub struct Fresh {
     pub to: usize,
 }
 
-/// Of each list, in order, the neighbours that the list before it may lack.
-pub fn fresh_parts(alloc: Global, graph: &OrderGraph) -> Result<Vec<Fresh>, Memory>
-    ensures count { IfOk result (λ parts. vec_len parts ≡ length graph.now.returned) }
-    ensures parts { IfOk result (λ parts. AreParts (lists_of graph.now) parts.items) }
-{
-    let mut parts = Vec::with_capacity(alloc, graph.lists() as usize)?;
-    for list in 0..graph.lists() {
-        parts.push(fresh_of(graph, list))?;
-    }
-    Ok(parts)
-}
-
 /// The neighbours in a list but for those that the list before it shows too, at its front or at its back. It
 /// compares up to the first places that differ, eight at a time.
-fn fresh_of(graph: &OrderGraph, list: u32) -> Fresh
+pub fn fresh_of(graph: &OrderGraph, list: u32) -> Fresh
     ensures shown { IsFresh (lists_of graph.now) list result.from result.to }
     ensures within { (1 ≤ result.from) × (result.from ≤ result.to + 1)
         × (result.to ≤ length (row (lists_of graph.now) list)) }

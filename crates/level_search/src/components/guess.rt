@@ -2,7 +2,6 @@
 //! Sharir). No clause says that it is right: `components` tests it.
 
 use super::edges::Edges;
-use super::fresh::Fresh;
 use crate::guesses::{NONE, at, put};
 use events::Memory;
 use order_graph::OrderGraph;
@@ -27,14 +26,9 @@ pub struct Guess {
     pub forths: Vec<u32>,
 }
 
-/// Guesses the components, by these parts of the lists. It takes time and memory linear in the elements and
-/// the places.
-pub fn guess_components(
-    alloc: Global,
-    graph: &OrderGraph,
-    parts: &[Fresh],
-) -> Result<Guess, Memory> {
-    let mut edges = Edges::of(alloc, graph, parts)?;
+/// Guesses the components. It takes time and memory linear in the elements and the places.
+pub fn guess_components(alloc: Global, graph: &OrderGraph) -> Result<Guess, Memory> {
+    let mut edges = Edges::of(alloc, graph)?;
     let depth = search_forward(alloc, graph, &mut edges)?;
     let mut guess = search_backward(alloc, graph, depth, edges.turned(alloc)?)?;
     for x in 0..graph.elements() {

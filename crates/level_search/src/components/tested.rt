@@ -2,12 +2,11 @@
 
 ghost use Rattle.std.specs.Prelude.{◌≡◌, ℕ, ◌+◌, ◌<◌, ◌≤◌, IfOk, List, true, length, vec_len};
 ghost use Rattle.order_graph.specs.Lists.{lists_of, row, Stands};
-ghost use Rattle.level_search.specs.Fresh.{AreParts};
 ghost use Rattle.level_search.specs.StrongComponents.{AreLinks, FitsLinks, HasValues, IsLinked, IsNearer};
 ghost use Rattle.level_search.specs.StrongComponents.{IsOwned};
 ghost use Rattle.level_search.specs.StrongComponents.{IsRight, IsTested, after, rank, root};
 
-use super::fresh::Fresh;
+use super::fresh::{Fresh, fresh_of};
 use super::guess::Guess;
 use events::Memory;
 use order_graph::OrderGraph;
@@ -82,9 +81,7 @@ fn note_list(graph: &OrderGraph, guess: &Guess, list: u32, fresh: Fresh, links: 
 
 /// Takes note of all places, but for neighbours that the list before shows too; whether the components fall
 /// along no list.
-fn note_lists(graph: &OrderGraph, parts: &[Fresh], guess: &Guess, links: &mut Links) -> bool
-    requires count { length parts.now ≡ length graph.now.returned }
-    requires parts { AreParts (lists_of graph.now) parts.now }
+fn note_lists(graph: &OrderGraph, guess: &Guess, links: &mut Links) -> bool
     requires values { HasValues (length graph.now.elements) guess.now }
     requires fits { FitsLinks (length graph.now.elements) links.old }
     requires links { AreLinks (lists_of graph.now) guess.now links.old }
@@ -94,7 +91,8 @@ fn note_lists(graph: &OrderGraph, parts: &[Fresh], guess: &Guess, links: &mut Li
         → Stands (lists_of graph.now) l (j + 1) y → rank guess.now x ≤ rank guess.now y }
 {
     for list in 0..graph.lists() {
-        if !note_list(graph, guess, list, parts[list as usize], links) {
+        let fresh = fresh_of(graph, list);
+        if !note_list(graph, guess, list, fresh, links) {
             return false;
         }
     }
@@ -195,16 +193,9 @@ fn are_tested(graph: &OrderGraph, guess: &Guess, links: &Links) -> bool
 }
 
 /// Whether a guess is right: no list goes from a component to a lesser one, and the elements of each that is
-/// said to have others lead to one of them, and are led to by it. It is one pass over these parts of the
-/// lists, and takes two marks an element.
-pub fn is_right(
-    alloc: Global,
-    graph: &OrderGraph,
-    parts: &[Fresh],
-    guess: &Guess,
-) -> Result<bool, Memory>
-    requires count { length parts.now ≡ length graph.now.returned }
-    requires parts { AreParts (lists_of graph.now) parts.now }
+/// said to have others lead to one of them, and are led to by it. It is one pass over the places, and takes
+/// two marks an element.
+pub fn is_right(alloc: Global, graph: &OrderGraph, guess: &Guess) -> Result<bool, Memory>
     ensures { IfOk result (λ right. right ≡ true
         → IsRight (length graph.now.elements) (lists_of graph.now) guess.now) }
 {
@@ -216,7 +207,7 @@ pub fn is_right(
         after: Vec::from_elem(alloc, false, elements as usize)?,
         before: Vec::from_elem(alloc, false, elements as usize)?,
     };
-    if !note_lists(graph, parts, guess, &mut links) {
+    if !note_lists(graph, guess, &mut links) {
         return Ok(false);
     }
     Ok(are_tested(graph, guess, &links))

@@ -1,24 +1,18 @@
 -- One list more, along which the components don't fall.
-use Rattle.std.proofs.Common.{◌≡◌, ℕ, ◌+◌, List, [], get_or, length, subst, ap, arith}
-use Rattle.std.proofs.Common.{inl, inr}
+use Rattle.std.proofs.Common.{◌≡◌, ℕ, ◌+◌, List, [], length, subst, ap, arith, inl}
+use Rattle.std.proofs.Common.{inr}
 use Rattle.std.proofs.lemmas.Bool.{cases_eq, cases_lt}
 use Rattle.std.proofs.lemmas.List.{get_or_past, length-map}
-use Rattle.std.proofs.lemmas.Option.{slice_get-get_or}
 use Rattle.specification.specs.Responses.{Responses, Returned}
 use Rattle.specification.specs.Elements.{numbers_in}
 use Rattle.order_graph.specs.Lists.{lists_of, row, Stands}
-use Rattle.level_search.specs.Fresh.{IsPart, IsShownEarlier}
-use Rattle.level_search.specs.declared.components.fresh.Fresh.{Fresh}
+use Rattle.level_search.specs.Fresh.{IsShownEarlier}
 use Rattle.level_search.proofs.components.tested.note_lists.Goals as goal
 
 pub loop-list-preserved : goal.loop-list-preserved
 loop-list-preserved c =
     let rows = (lists_of c.args.graph.now) in
     let l : ℕ = c.loop-list.list in
-    let none : Fresh = record { from = 0; to = 0 } in
-    let part : Fresh = get_or c.args.parts.now l none in
-    let is_part : IsPart rows l part =
-    c.requires.parts l part (slice_get-get_or c.args.parts.now l none (omega arith)) in
     record {
       fits = c.note_list.ensures.fits;
       links = c.note_list.ensures.links;
@@ -28,11 +22,11 @@ loop-list-preserved c =
             let next : Stands rows l (j + 1) y = subst (λ k. Stands rows k (j + 1) y) same second in
             let earlier = λ (e : IsShownEarlier rows l x y). c.loop-list.invariant.climbs e.list e.place x y
             e.earlier e.first e.second in
-            elim (cases_lt (j + 1) part.from) [
-              | inl low ↦ earlier (is_part.shown j x y here next (inl low))
-              | inr from ↦ elim (cases_lt (j + 1) part.to) [
+            elim (cases_lt (j + 1) c.fresh_of-fresh.result.from) [
+              | inl low ↦ earlier (c.fresh_of-fresh.ensures.shown j x y here next (inl low))
+              | inr from ↦ elim (cases_lt (j + 1) c.fresh_of-fresh.result.to) [
                 | inl under ↦ c.note_list.ensures.climbs c.if-not-note_list.false j x y from under here next
-                | inr past ↦ earlier (is_part.shown j x y here next (inr past))
+                | inr past ↦ earlier (c.fresh_of-fresh.ensures.shown j x y here next (inr past))
               ]
             ]
         | inr other ↦ c.loop-list.invariant.climbs i j x y (omega arith) first second
