@@ -63,6 +63,10 @@ def be_stopped(stop, _):
     raise Stopped(stop)
 
 
+def pass_over(*_):
+    """What a second signal does. Were it ignored, a tool that another thread is just beginning would ignore it too, and go on."""
+
+
 def ended(*words):
     """Runs a tool, in a thread that is not the first: that one alone is interrupted by signals, and ends what is at work."""
     try:
@@ -83,7 +87,7 @@ def ended(*words):
 def end_tools(pool):
     """Ends the tools that are at work, which end what they began, and waits for them."""
     for stop in STOPS:
-        signal.signal(stop, signal.SIG_IGN)
+        signal.signal(stop, pass_over)
     with LOCK:
         ENDS.set()
         for tool in BEGUN:

@@ -2085,8 +2085,21 @@ def script_ended(tally: Tally, place: str, path: str, script: str, folder: str) 
                     (running.returncode, out, err, left))
 
 
+BEGINS_AS_IT_IS_STOPPED = """import sys
+sys.path.insert(0, {folder!r})
+import judge_recordings as script
+from concurrent.futures import ThreadPoolExecutor
+script.end_tools(ThreadPoolExecutor(1))
+late = script.subprocess.Popen(["sh", "-c", "sleep 60"])
+late.terminate()
+print(late.wait(30))
+"""
+
+
 def explained_side_by_side(tally: Tally, place: str, path: str, script: str, folder: str) -> None:
     """Failures are explained as many at a time as there are processors, and told in the order of the table; a signal ends them all."""
+    done = subprocess.run([sys.executable, "-c", BEGINS_AS_IT_IS_STOPPED.format(folder=str(ROOT / "examples" / "ci"))], capture_output=True, text=True)
+    tally.check("script of CI: a tool that is begun as it is stopped is stopped too", done.stdout == f"{-signal.SIGTERM}\n", done)
     tools, begun = Path(folder, "waiting"), Path(folder, "explained")
     tools.mkdir()
     write(place, {f"failing/{name}.trace": "0 ins a 0 : a|0 read :" for name in "abcd"})
