@@ -365,6 +365,7 @@ LISTED = {
         "step e35 e34 2.8 : e29 e32 e35 e34 e25 e23 e22 e24 e21 e14 e19 e5 e11 e2 e20 e10 e8 e3 e6",
     "crdt_el_wrong_delete": "replicas 2 operations 5 inserts 2|contents 0.4|strong no|weak no",
     "crdts_uncausal_exchange": "replicas 3 operations 3 inserts 1|contents 1.1|strong no|weak no",
+    "yjs_uncausal_exchange": "replicas 3 operations 5 inserts 4|contents 0.1|strong no|weak no",
     "libinfinity_accepted": "replicas 2 operations 20 inserts 8|accepted|strong yes|weak yes|order : e1 e0 e6 e5 e4 e7 e2 e3",
     "crdt_el_accepted": "replicas 2 operations 21 inserts 9|accepted|strong yes|weak yes|order : e4 e3 e2 e1 e8 e7 e0 e6 e5",
     "yjs_accepted": "replicas 4 operations 17 inserts 8|accepted|strong yes|weak yes|order : e9 e10 e20 e1 e11 e21 e13 e14",
