@@ -165,6 +165,10 @@ def main() -> None:
         text = (ROOT / page).read_text()
         ids, by_number = text.find("#receipts-made-for-you"), text.find("recording.received(")
         tally.check(f"{page}: calls that take ids and clocks come first", 0 < ids < by_number, (ids, by_number))
+    for page, begins, call in (("README.md", "from domepeeler import Recording\n", "recording.received_changes(1, "), ("README.md", "import { Recording }", "recording.receivedChanges(1, "),
+                               ("docs/recording.md", "from domepeeler import Recording\n\nrecording = Recording(2)  # a session", "recording.received_changes(self.replica, ")):
+        shown = next((block for block in blocks((ROOT / page).read_text()) if block.startswith(begins)), "")
+        tally.check(f"{page}: its first example in this language takes ids", call in shown and ".received(" not in shown, shown)
     for page, sentences in SENTENCES.items():
         text = re.sub(r"[ \n]+(?:(?://!|//|\*|;;) )? *", " ", (ROOT / page).read_text())
         for sentence in sentences:
