@@ -2363,6 +2363,12 @@ def long_cycles(tally: Tally, program: str, folder: str) -> None:
                     and drawn.count('class="element between"') == 1 and f"A cycle of {k}: " in drawn, drawn)
         tally.check(f"long cycle of {k}: no longer than that, and soon", len(said) < 12_000 and Path(folder, "page.html").stat().st_size < 1_000_000
                     and seconds < 1, (len(said), seconds))
+    taken = []
+    for n in 500, 2000:
+        trace = Path(folder, f"{n}.trace")
+        trace.write_text(two_rings(n))
+        taken.append(used([EXPLAIN, "--program", program, "--html", f"{folder}/page.html", "--svg", f"{folder}/cycle.svg", str(trace)])[1])
+    tally.check("long cycles: time grows with the trace", taken[1] < 6 * taken[0], taken)
     got, seconds, _ = used([EXPLAIN, "--program", program, f"{folder}/500.trace"])
     tally.check("long cycle of 1001: the words soon", got.status == 1 and got.out.startswith(b"refused 1001: ") and seconds < 1, (got.out[:80], seconds))
     trace.write_text(two_rings(2000))

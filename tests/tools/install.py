@@ -224,6 +224,12 @@ def completions(tally: Tally, folder: str) -> None:
                   "printf '<%s>' \"${COMPREPLY[@]}\"")
         done = subprocess.run(["bash", "-c", script], capture_output=True, text=True, cwd=place)
         tally.check("bash: a name with a blank", done.stdout == "<my first.trace>", done)
+        for command, option in (("domepeeler-explain", "--program"), ("domepeeler-explain", "--html"), ("domepeeler-explain", "--small"), ("domepeeler-explain", "--svg"),
+                                ("domepeeler-judge-many", "--junit")):
+            script = (f"compopt() {{ :; }}; source '{path}'; COMP_WORDS=({command} {option} my); COMP_CWORD=2; _domepeeler; "
+                      "printf '<%s>' \"${COMPREPLY[@]}\"")
+            done = subprocess.run(["bash", "-c", script], capture_output=True, text=True, cwd=place)
+            tally.check(f"bash: a name with a blank behind {option}", done.stdout == "<my first.trace>", done)
     script = f"source '{path}'; complete -p {' '.join(TOOLS)}"
     done = subprocess.run(["bash", "-c", script], capture_output=True, text=True)
     tally.check("bash: of each command", done.stdout.count("-F _domepeeler") == 3, done)

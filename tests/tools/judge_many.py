@@ -1523,6 +1523,11 @@ def overwriting(tally: Tally, program: str, folder: str) -> None:
         tally.check(f"overwriting: what can't be written whole, {words[1]}", limited.returncode == 2 and b"cannot write" in limited.stderr
                     and old.read_text() == "old" and sorted(os.listdir(folder)) == ["a.trace", "a.trace.lines", "link", "old.html", "same"],
                     (limited, os.listdir(folder)))
+    cycle, unmade = str(ROOT / "examples" / "libinfinity_three_way_cycle.trace"), Path(folder, "unmade")
+    for option, target in ("--svg", old), ("--small", unmade):
+        limited = subprocess.run(["sh", "-c", 'ulimit -f 0; trap "" XFSZ; exec "$@"', "sh", explain, "--program", program, option, str(target), cycle], capture_output=True)
+        tally.check(f"overwriting: what can't be written whole, {option}", limited.returncode == 2 and b"cannot write" in limited.stderr and old.read_text() == "old"
+                    and sorted(os.listdir(folder)) == ["a.trace", "a.trace.lines", "link", "old.html", "same"], (limited, os.listdir(folder)))
     subprocess.run([explain, "--program", program, "--html", str(old), path], capture_output=True)
     own = script(Path(folder, "own"), f"{VERSION}exec '{program}' \"$@\"\n")
     for words in *([explain, option, own, path] for option in ("--small", "--html", "--svg")), [TOOL, "--junit", own, path]:
@@ -1559,6 +1564,18 @@ def odd_names(tally: Tally, program: str, folder: str) -> None:
         tally.check(f"odd names: {shown} on the page", shown in Path(page).read_text(), shown)
         missing = subprocess.run([str(ROOT / "tools" / "explain"), "--program", program, f"{folder}/no{name}"], capture_output=True, text=True)
         tally.check(f"odd names: {shown} missing", missing.stderr == f"domepeeler-explain: cannot read {folder}/no{shown}: No such file or directory\n", missing)
+
+
+def no_shell(tally: Tally, program: str, folder: str) -> None:
+    """No shell runs a name: not here, nor where GNU parallel begins it, nor in CI's script or that of a cluster."""
+    place, names = Path(folder, "place"), ["$(touch pwned).trace", "`touch pwned`.trace", "; touch pwned;.trace", "' \"& touch pwned &.trace", "| touch pwned.trace"]
+    write(str(place), {f"night/part0/{name}": "0 ins a 0 : a|0 read :" for name in names})
+    subprocess.run([ROOT / "tools" / "install", f"{folder}/installed"], check=True, stdout=subprocess.DEVNULL, env=os.environ | {"DOMEPEELER": program})
+    here = os.environ | {"DOMEPEELER": program, "PATH": f"{folder}/installed/bin:{os.environ['PATH']}", "SLURM_ARRAY_TASK_ID": "0"}
+    for words, status in (([TOOL, "night"], 1), ([TOOL, "--sshlogin", ":", "night"], 1), ([EXPLAIN, "--small", "$(touch pwned)", f"night/part0/{names[0]}"], 1),
+                          (["python3", str(ROOT / "examples/ci/judge_recordings.py"), "night"], 1), (["sh", str(ROOT / "examples/ci/slurm_array.sh")], 0)):
+        done = subprocess.run(words, cwd=place, capture_output=True, text=True, env=here)
+        tally.check(f"no shell runs a name: {words}", done.returncode == status and not list(Path(folder).rglob("pwned")), done)
 
 
 def one_way_to_show(tally: Tally, program: str, folder: str) -> None:
@@ -2368,7 +2385,7 @@ def main() -> None:
         warnings(tally, program, folder)
         warnings_of_sessions(tally, program, other)
     for check in (what_is_common, situations, time_of_common, converted, asked_once, pythons, left_over, beside_elsewhere, safe_paths, little_memory, not_looked_at, changing, told_of_what_was_judged, explained_once, weak, weak_junit, weak_in_ci,
-                  known_as_cut, refused_calls, grouped, no_entries, no_files, overwriting, millions_of_names, odd_names, one_way_to_show, odd_words, names_like_commands, tasks, script_of_ci,
+                  known_as_cut, refused_calls, grouped, no_entries, no_files, overwriting, millions_of_names, odd_names, no_shell, one_way_to_show, odd_words, names_like_commands, tasks, script_of_ci,
                   big_traces, time_of_small, time_of_big, long_cycles):
         with tempfile.TemporaryDirectory() as folder:
             check(tally, program, folder)
