@@ -6,7 +6,7 @@ from .evidence import Evidence
 from .kinds import POSITIONS, is_possible
 from .positions import met, met_before, neighbours, not_behind, put_there_at_once
 from .programs import GUIDE
-from .recordings import Operation
+from .recordings import Operation, Receipt
 from .telling import at, joined, listed
 
 ARRIVAL = ("Check {things}, one after the other. Recorder: `received` must be called right after the change is applied. {transport}"
@@ -96,7 +96,7 @@ CAME_SINCE = " Since then it received {came}."
 OWN_UNKNOWN = " No other replica shows that it has them."
 SHOWN_AGAIN = ("what applies that: is an element that is marked as deleted shown again, made anew by an insert that arrives a second time, or brought back by a state that "
                "is older than the delete?")
-SPLIT = ("what {new} there to the elements beside {it}: is a run (block) of them split, or made anew, without the mark that they are deleted? Else look for a state that is older than "
+SPLIT = ("what {new} there to the elements beside it: is a run (block) of them split, or made anew, without the mark that they are deleted? Else look for a state that is older than "
          "the delete and takes the place of the replica's own.")
 OWN_LOST = ", and {missing} {is_} not there: perhaps that delete now hits {it}"
 HEALED = "Later replica {other} reads another list in {after} than in {before}, though it received and changed nothing between. Something that is not recorded did that: "
@@ -335,9 +335,15 @@ def wrong_delete(evidence: Evidence, operation: Operation) -> list:
     return tied_first([Cause("wrong delete", told), *counted_twice, *moved_delete(evidence, news[0])])
 
 
+def arrival_of(evidence: Evidence, change: Operation) -> Receipt | None:
+    """The receipt that brought a change to the replica of the wrong response; none of its own."""
+    replica = evidence.operations[0].replica
+    return evidence.recording.arrival(change, replica) if change.replica != replica else None
+
+
 def rivals(evidence: Evidence, delete: Operation, missing: str) -> str:
     """Where changes carry positions, that a delete seems to have hit what was inserted at the place of its own element, neither author knowing of the other's."""
-    receipt = evidence.recording.arrival(delete, evidence.operations[0].replica) if delete.replica != evidence.operations[0].replica else None
+    receipt = arrival_of(evidence, delete)
     inserts = evidence.recording.inserts.get(delete.element, [])[:1] if evidence.kind == POSITIONS and receipt else []
     found = [other.element for insert in inserts for other in put_there_at_once(evidence.recording, insert, receipt)]
     return RIVALS.format(missing=missing, element=delete.element) if missing in found else ""
@@ -347,7 +353,7 @@ def lacked_elsewhere(evidence: Evidence, delete: Operation, missing: list) -> st
     """That a third replica which has a delete lacks the same elements, though it has their inserts and no delete of them, nor any that the replica had on its way then: then the
     delete came wrong to both."""
     replica, recording = evidence.operations[0].replica, evidence.recording
-    arrival = recording.arrival(delete, replica) if delete.replica != replica else None
+    arrival = arrival_of(evidence, delete)
     own = [change for change in evidence.on_their_way(arrival) if change.kind == "del"] if arrival else []
     for stream in recording.streams:
         for one in stream:
@@ -362,7 +368,7 @@ def lacked_elsewhere(evidence: Evidence, delete: Operation, missing: list) -> st
 def where_it_came(evidence: Evidence, delete: Operation, missing: list) -> str:
     """Of a delete that seems to have deleted something else, what a third replica shows; else, where changes carry positions, what was on its way where it came."""
     told = lacked_elsewhere(evidence, delete, missing)
-    arrival = evidence.recording.arrival(delete, evidence.operations[0].replica) if delete.replica != evidence.operations[0].replica else None
+    arrival = arrival_of(evidence, delete)
     return told or (f" {on_way_then(evidence, arrival, f'Replica {arrival.replica}')}".rstrip() if arrival and evidence.kind == POSITIONS else "")
 
 
@@ -438,7 +444,7 @@ def look_of_back(evidence: Evidence, came: list, is_own: bool) -> str:
     if not others:
         return SHOWN_AGAIN
     one = f"the {'insert' if others[0].kind == 'ins' else 'delete'} of {others[0].element} does"
-    return SPLIT.format(new="each of these changes does" if others[1:] else one, it="it")
+    return SPLIT.format(new="each of these changes does" if others[1:] else one)
 
 
 def own_on_way(evidence: Evidence) -> list:

@@ -43,7 +43,7 @@ GENERAL = {ONE_PLACE: {UNSEEN["ins", "ins"]}, SEVERAL_OWN: {OWN}, TWICE: {UNSEEN
 FEWEST, FEWEST_PASSING, FEWEST_LISTS = 3, 5, 20  # failing sessions of which something is said; passing ones, and lists that are right, beside which it stands out
 NEARLY_ALL, MANY_LISTS = 0.95, 0.6  # shares of failing sessions, and of wrong lists, that have what is told
 TELLING = 0.3  # by how much a share must stand out
-BY_CHANCE = 0.005  # a share as high comes by chance no more often, of a situation that failing needs no more than others
+BY_CHANCE = 0.005  # about how often chance alone would show a share as high, of one situation
 UNNEEDED_FROM = 0.1  # the share of failing sessions without it
 MOST_TOLD, LEAST_OF_FIRST = 3, 0.4  # situations, and what part of the first one's weight the others have at least
 MOST_SESSIONS, MOST_BYTES = 100, 1_000_000  # that are looked at, of failing and of passing ones each
@@ -203,7 +203,7 @@ def standing_out(failing: list, passing: list) -> list:
     """The situations that stand out, the most telling first; of what holds wherever another does that is told, nothing."""
     found, lists = [], [one for session in failing + passing for one in session.others] + [session.last for session in passing]
     for name in IN_WORDS:
-        count, others = (sum(name in session.before for session in sessions) for sessions in (failing, passing))
+        count, others = (sum(name in session.before for session in some) for some in (failing, passing))
         if len(passing) >= FEWEST_PASSING and count >= NEARLY_ALL * len(failing):
             found.append(Telling(weight(count / len(failing), others, len(passing)), name, count, False, f"in {others} of those that pass"))
         count, others = sum(name in session.last for session in failing), sum(name in one for one in lists)
@@ -230,9 +230,10 @@ def in_common(rows: list) -> list:
     stands out. What passes, but ends unequal, passes."""
     wrong, right = [row for row in rows if row.fails_at], [row for row in rows if row.passes]
     failing = sessions(wrong, True) if len(wrong) >= FEWEST else []
-    passing = sessions(right, False) if len(failing) >= FEWEST else []
-    lines = []
-    for one in standing_out(failing, passing) if len(failing) >= FEWEST else []:
+    if len(failing) < FEWEST:
+        return []
+    passing, lines = sessions(right, False), []
+    for one in standing_out(failing, passing):
         which = "each" if one.count == len(failing) else f"{one.count} of them"
         lines.append(f"  {'right before' if one.is_right_before else 'before'} {which}: {IN_WORDS[one.name]} ({one.others})")
     without = unneeded(failing) if lines else []
