@@ -62,10 +62,10 @@ def stop(line: int, doing: str, *others: int, together: int = 0) -> str:
     arrivals = ("another arrival", "other arrivals") if " applies " in doing else ("an arrival", "arrivals")
     doing += f"; if nothing is wrong there, stop at {arrivals[len(others) > 1]} ({before})" if others else ""
     asked = f"if recording.lines() == {line - 1}: breakpoint()"
-    where = "where your code reads the list" if "reads the list" in doing else "where your code has the editor apply a change, local or remote"
-    or_first = f"; or {together - 1}, if one call wrote lines {together} to {line}" if together else ""
+    where = "right before the call that reads the list" if "reads the list" in doing else "right before the call that makes the editor apply a change, local or remote"
+    or_first = f", or {together - 1} if one call wrote lines {together} to {line}" if together else ""
     asked = f"if recording.lines() in ({together - 1}, {line - 1}): breakpoint()" if together else asked
-    where += f" (the recording has {line - 1} lines then{or_first})"
+    where += f" (there the recording has {line - 1} lines{or_first})"
     return f"|In a debugger|stop before line {line} of the trace, where {doing}. In Python, put this {where}: {asked}"
 
 
@@ -206,7 +206,7 @@ WORDS = [
      "c was put behind a and before b. When it arrived at replica 1 in line 13, both were already deleted there: a by 1.1 (line 8), b by 0.3 (line "
      "9)|c arrived at replica 1 in line 13, d at replica 2 in line 15"),
     ("a session that goes on", 2, f"{BESIDE_DELETED}|0 recv 1 2|0 read : d c|1 read : c d",
-     "When it showed|line 11 of the trace, 1.3: replica 1 read the list. Up to line 10 the session is accepted; line 11 leads to `refused 2`|"
+     "When it showed|line 11 of the trace, 1.3: replica 1 read the list. Up to line 10 the session is accepted; line 11 makes it `refused 2`|"
      "before it: replica 1's 1.2 (line 8) answered c, which fits; since then it received 0.3 (line 10)|"
      "in the end replicas 0 and 1 have every change, as the receipts say, and show the same elements in different orders||"
      "What these responses show: a circle, which no order allows|"
@@ -215,28 +215,28 @@ WORDS = [
      "c arrived at replica 0 in line 6, d at replica 1 in line 10||"
      "Where to look" + stop(10, "replica 1 applies 0.3", 6)),
     ("a session that goes on, with one list in the end", 2, f"{BESIDE_DELETED}|0 recv 1 2|0 read : c d",
-     "When it showed|line 11 of the trace, 1.3: replica 1 read the list. Up to line 10 the session is accepted; line 11 leads to `refused 2`|"
+     "When it showed|line 11 of the trace, 1.3: replica 1 read the list. Up to line 10 the session is accepted; line 11 makes it `refused 2`|"
      "before it: replica 1's 1.2 (line 8) answered c, which fits; since then it received 0.3 (line 10)|"
-     "in the end replicas 0 and 1 have every change, as the receipts say, and show the same list||Where to look|Replica 0, which inserted "
-     "[d] (0.3, line 9), shows it before [c] until its next receipt (line 12), and no other replica does; from 0.4 (line 13) on it shows it behind [c], as the others do. So the insert's change "
-     "says another place than the one where the replica itself shows it: look at how a local insert is put into the list, and at what its change carries. Or the insert was moved in "
+     "in the end replicas 0 and 1 have every change, as the receipts say, and show the same list||Where to look|Replica 0 inserted "
+     "[d] (0.3, line 9) before [c]. No other replica shows them so. After its next receipt (line 12), from 0.4 (line 13) on, replica 0 itself shows [d] behind [c], like the others. So the message for "
+     "this insert seems to name another place than the one where its author put it: compare where a local insert goes into the list with what its message says. Or the insert was moved in "
      "line 12, behind a server: then look at how the replica's own changes that are still on their way are adjusted for what arrives." +
      stop(9, "replica 0 inserts d", 12, 10, 6)),
     ("a replica turns round what it reads, and has received nothing", 2, "0 ins a 0 : a|1 ins b 0 : b|0 recv 1 1|0 read : a b|1 recv 0 1|1 read : b a|1 read : a b", "Where to look|"
      "Replica 1 shows b before a in 1.2 (line 8), and a before b in 1.3 (line 9), though it received and changed nothing between. Something that is not recorded did that: behind a "
-     "server or a relay, perhaps its answer to the replica's own change. Then one of the two lists is wrong: that of 1.2 (line 8), made when 0.1 came in line 7, or the one behind the "
-     "answer. Compare how an arriving change and the replica's own that are still on their way are moved over each other with how it is done for the answer, and on the server, if it "
-     "adjusts positions: for which changes, whether for each once, and which of two at one position comes first."),
+     "server or a relay, perhaps its answer to the replica's own change. Then one of the two lists is wrong: that of 1.2 (line 8), made when 0.1 came in line 7, or the one after the "
+     "answer. Two pieces of code must adjust in the same way: the one for an arriving change and the replica's own changes that are still on their way, and the one for the answer, on the server too, if it "
+     "adjusts positions. Compare which changes they adjust, whether each only once, and which of two at one position comes first."),
     ("an insert beside what came since the last one", 2, "1 ins c 0 : c|0 ins a 0 : a|0 recv 1 1|0 read : a c|0 ins b 1 : a c b",
      "found at: position 2||Where to look|c came to replica 0 in line 5, beside a, which the replica had inserted "
-     "itself before by 0.1 (line 4). Does the editor keep a place, or bounds, from its last insert? Then what arrives there must change these." + stop(7, "replica 0 inserts b", 5)),
+     "itself before by 0.1 (line 4). Does the editor keep a place, or bounds, from its last insert? Then what arrives there must update these." + stop(7, "replica 0 inserts b", 5)),
     ("a read that has other elements, where nothing was received", 2, "0 ins a 0 : a|0 ins b 1 : a b|1 recv 0 2|1 read : a b|0 del a : b|1 recv 0 3|1 read : b|1 read : a", "Where to look|"
-     "Replica 1 answered what is right in 1.2 (line 9), and has received nothing since. Look at what replica 1 itself does between the two; behind a server, at what its answer to the "
+     "Replica 1's answer in 1.2 (line 9) is right, and it has received nothing since. Look at what replica 1 itself does between the two; behind a server, at what its answer to the "
      "replica's own change does there." + stop(10, "replica 1 reads the list", 8)),
     ("a beginning that shows something else", 3, f"{THREE_WAY}|1 recv 0 2|1 recv 2 1|1 read : a b",
-     "refused 3: three responses can't be right together. Any two of them can. This is what went wrong first, within the "
-     "first 11 lines: begin with it. The verdict on the whole trace is `refused 2`, told at the end.||"
-     "When it showed|line 11 of the trace, 0.3: replica 0 read the list. Up to line 10 the session is accepted; line 11 leads to "
+     "refused 3: three responses can't be right together. Any two of them can. This fault comes first, "
+     "in lines 1 to 11: start here. The whole trace is `refused 2`: see the end.||"
+     "When it showed|line 11 of the trace, 0.3: replica 0 read the list. Up to line 10 the session is accepted; line 11 makes it "
      "`refused 3`|"
      "before it: replica 0's 0.2 (line 8) answered (nothing), which fits; since then it received 1.1 (line 9), 2.1 (line 10)|"
      "in the end replicas 0 and 1 have every change, as the receipts say, and show the same elements in different orders||"
@@ -249,7 +249,7 @@ WORDS = [
      "Where to look|"
      "Look at positions beside deleted elements: any two of 2.1, 0.3 and 1.1 fit together, all three don't; perhaps an insert lost its place "
      "because its neighbour was deleted meanwhile. Look first at where replica 0 placed b in line 10, beside x, which had been deleted there.|"
-     "For the verdict on the whole trace (told at the end): look at where a replica places an incoming insert beside a deleted element: [a] was put before [x] (1.1, line 6), and [b] behind it (2.1, line 7), so [x] settles their order, also where it is deleted; yet 0.3 (line 11) shows them the other way round. No rule for concurrent inserts at one place may decide here.|For the verdict on the whole trace (told at the end): if the list is sorted by position identifiers, look at those of a and b: are the two equal, does one differ between replicas, are numbers compared as text, or was one not made between its neighbours'?|For the verdict on the whole trace (told at the end): if the editor sends positions, the position of b was perhaps not adjusted for the delete of x by 0.2 (line 8), which replica 1 "
+     "For the whole trace (see the end): look at where a replica places an incoming insert beside a deleted element: [a] was put before [x] (1.1, line 6), and [b] behind it (2.1, line 7), so [x] settles their order, also where it is deleted; yet 0.3 (line 11) shows them the other way round. This is not for the rule on concurrent inserts to decide.|For the whole trace (see the end): if the list is sorted by position identifiers, look at those of a and b: are the two equal, does one differ between replicas, are numbers compared as text, or was one not made between its neighbours'?|For the whole trace (see the end): if the editor sends positions, the position of b was perhaps not adjusted for the delete of x by 0.2 (line 8), which replica 1 "
      "knew and the author of b did not; or the position of the delete was not adjusted for an insert that the author of the delete had not seen.|"
      "" + stop(10, "replica 0 applies 2.1", 9, 5, 4, together=9) + "||What the whole trace shows: a circle, which no order allows|"
      "[a] before [b]: line 14, 1.2: replica 1 read the list, answered [a] [b]|"
@@ -289,8 +289,8 @@ WORDS = [
      "line 7 of the trace, 2.1: replica 2 read the list|answered: b|it should hold, in any order: b [a]|"
      "before it: replica 2 did nothing, and received 1.1 (line 6)|Missing|"
      "[a] inserted by 0.1 (line 3), which arrived at replica 1 in line 4 (1 recv 0 1), and "
-     "counts as arrived at replica 2 with 1.1, whose author had it, in line 6 (2 recv 1 1)|[a] 0.1 has no receipt of its own at replica 2, and counts as arrived with 1.1, in line 6, since the author of 1.1 had 0.1. If "
-     "each operation travels by itself, 1.1 arrived without 0.1: that is not causal order|[a] is never deleted||Where to look|"
+     "counts as arrived at replica 2 with 1.1, whose author had it, in line 6 (2 recv 1 1)|[a] 0.1 has no receipt of its own at replica 2. If "
+     "each operation travels by itself, 1.1 arrived without 0.1 (line 6): that is not causal order|[a] is never deleted||Where to look|"
      "Look first at whether 0.1 was lost on its way to replica 2: no receipt there names it. If it was not lost but overtaken, look at the order in which "
      "operations arrive. The engine may be right: operations must arrive in causal order. Apply an operation only after everything that its author had seen, or send all of that together with it. If the editor itself holds "
      f"operations back, write the receipt of each only when it is applied. {GUIDE} shows what to record in each case."),
@@ -374,7 +374,7 @@ WORDS = [
      "position 1.1: c is not at the position that was asked for.|asked for: position 0; the answer has [b] there|found at: position 1||"
      "Where to look|"
      "If the editor decides by numbers (a clock, ids) which of two inserts at one place comes first, look at theirs: c stands behind b, which replica 1 had "
-     "already. The number that c has must be greater than that of b; perhaps it is not. Usual causes: the clock does not advance when changes arrive, or when one that was held back is applied; "
+     "already. So the number of c must be greater than that of b; perhaps it is not. Usual causes: the clock does not advance when changes arrive, or when one that was held back is applied; "
      'the replica\'s number is compared before the clock; ids are compared as text, so 10 comes before 9.|If the list is sorted by position identifiers, print those of c and b at line 6. If they do not rise in this order, look '
      'at how the one of c was made; if they do, at how identifiers are compared (numbers must not be compared as text).|If neither fits your editor: look at how the position that a user sees is mapped to a place '
      "in the editor's own list; and at whether the recorder writes the position that was asked for." + stop(6, "replica 1 inserts c")),
@@ -441,8 +441,8 @@ WORDS = [
      "writes the name of the element that was deleted.|If the editor sends positions, the position of 1.2 was perhaps not adjusted for the insert of c by 0.3 (line 8), which the author of 1.2 had not seen." + stop(9, "replica 0 applies 1.2")),
     ("an insert that another one at its place has shifted", 2, "0 ins b 0 : b|0 ins c 0 : c b|1 ins a 0 : a|1 recv 0 1|1 read : a b|1 recv 0 2|"
      "1 read : a b c",
-     "When replica 0 inserted [c] (0.2, line 4), it had [b] already, and put [c] before it. That order must hold everywhere, but 1.3 (line 9) shows [c] behind [b]. Look at what that insert says, as replica 0 made it, and at where replica 1 placed it in line 8. Often the clock that decides between inserts does not advance when changes arrive, or not past the last element of a paste; or the neighbour is not found; or elements are stored in runs (blocks of several), and a run is split at a wrong place. At the place of c also "
-     "a was inserted, and neither author had the other's insert. Look also at which of them comes first." + stop(8, "replica 1 applies 0.2", 6)),
+     "When replica 0 inserted [c] (0.2, line 4), it had [b] already, and put [c] before it. That order must hold everywhere, but 1.3 (line 9) shows [c] behind [b]. Look at what that insert says, as replica 0 made it, and at where replica 1 placed it in line 8. Often the clock that decides between inserts does not advance when changes arrive, or not past the last element of a paste; or the neighbour is not found; or elements are stored in runs (blocks of several), and a run is split at a wrong place. a was inserted at the same "
+     "place as c, and neither author had the other's insert: look also at which of the two comes first." + stop(8, "replica 1 applies 0.2", 6)),
     ("a receipt that comes before the change is applied", 2, "0 ins a 0 : a|1 recv 0 1|1 read : a|0 ins b 1 : a b|0 del a : b|1 recv 0 3|1 read : a",
      "contents 1.2: this response lacks one element that replica 1 should have had by then, and has one element that should not be there.||"
      "Where to look|"
@@ -467,7 +467,7 @@ WORDS = [
      f"to another element? {GUIDE} says where the calls go." + stop(4, "replica 0 reads the list")),
     ("a deleted element settles the order of two others", 3, "0 ins x 0 : x|1 recv 0 1|2 recv 0 1|1 ins a 0 : a x|2 ins b 1 : x b|0 del x :|1 recv 0 2|1 recv 2 1|1 read : a b|"
      "0 recv 1 1|0 recv 2 1|0 read : b a", "refused 2: two responses can't be right together.||Where to look|"
-     "Look at where a replica places an incoming insert beside a deleted element: [a] was put before [x] (1.1, line 6), and [b] behind it (2.1, line 7), so [x] settles their order, also where it is deleted; yet 0.3 (line 14) shows them the other way round. No rule for concurrent inserts at one place may decide here.|"),
+     "Look at where a replica places an incoming insert beside a deleted element: [a] was put before [x] (1.1, line 6), and [b] behind it (2.1, line 7), so [x] settles their order, also where it is deleted; yet 0.3 (line 14) shows them the other way round. This is not for the rule on concurrent inserts to decide.|"),
     ("a replica turns round what it inserted itself", 2, "0 ins x 0 : x|1 recv 0 1|1 ins b 1 : x b|1 ins a 0 : a x b|0 del x :|1 recv 0 2|1 read : b a", "Where to look|"
      "Replica 1 itself changed the order of elements that it had shown: a before b in 1.2 (line 6), b before a in 1.3 (line 9). Between the two it received the delete of x by 0.2 (line 7). "
      "Look at what decides which of b and a comes first: once both are inserted, it must never change, whatever is inserted, deleted or received later.|"
@@ -475,26 +475,26 @@ WORDS = [
      "If the list is sorted by position identifiers, print those of a, x and b at line 6. If they do not rise in this order, look at how the one of a was made; if they do, at how "
      "identifiers are compared (numbers must not be compared as text)." + stop(8, "replica 1 applies 0.2")),
     ("a number that does not grow at one replica", 1, "0 ins b 0 : b|0 ins a 0 : b a", "Where to look|"
-     "If the editor decides by numbers (a clock, ids) which of two inserts at one place comes first, look at theirs: a stands behind b, which replica 0 had already. The number that a has "
+     "If the editor decides by numbers (a clock, ids) which of two inserts at one place comes first, look at theirs: a stands behind b, which replica 0 had already. So the number of a "
      "must be greater than that of b; perhaps it is not. Usual causes: the clock does not advance with each insert; ids are compared as text, so 10 comes before 9.|"),
     ("an own deleted element that comes back, and a list that heals", 2, "0 ins a 0 : a|1 ins r 0 : r|1 del r :|1 recv 0 1|1 read : r|1 read : a", "Where to look|"
      "When the insert of a by 0.1 (line 3) came in line 6, r came back, which replica 1 had deleted itself by 1.2 (line 5), and a is not there: perhaps that delete now hits it. Look at how the "
-     "replica's own changes that are still on their way are adjusted for what arrives (each for the other as it stood before), and at how it takes them back and applies them anew, if it does.|"),
+     "replica's own changes that are still on their way are adjusted for what arrives, and what arrives for them (each for the other's form from before). If the editor takes its own changes back and applies them again, look at how.|"),
     ("a wrong list that heals", 2, "0 ins a 0 : a|1 recv 0 1|1 read :|1 read : a", "Later replica 1 reads another list in 1.2 (line 6) than in 1.1 (line 5), though it received and changed nothing "
      "between. Something that is not recorded did that: behind a server, perhaps its answer to the replica's own change. Then server and replica make different things of one change: look "
-     "at which changes each of them adjusts it for. Client and server must adjust alike, and each change once.|"),
+     "at which changes each of them adjusts it for. Client and server must adjust in the same way, and each change only once.|"),
     ("an insert beside a deleted element, at a wrong position", 2, "0 ins a 0 : a|0 ins b 1 : a b|1 recv 0 2|1 read : a b|1 del a : b|1 ins c 0 : b c", "found at: position 1||Where to look|"
      "b was put behind a (0.2 (line 4)), which is deleted at replica 1 by now: so c belongs beside a deleted element. Look at how an insert finds its place there; in a tree of elements, "
      "at how the children of a deleted one are shown: all of its left side come before all of its right side.|"),
     ("a wrong response before the one that the program names", 2, "1 ins a 0 : a|1 read :|0 recv 1 1|0 read : a|0 read :|1 read : a",
-     "contents 1.2: this response lacks one element that replica 1 should have had by then. This is what went wrong first, within the first 4 lines: begin with it. The verdict on "
-     "the whole trace is `contents 0.2`, told at the end.||When it went wrong|"
-     "line 4 of the trace, 1.2: replica 1 read the list. Up to line 3 the session is accepted; line 4 leads to `contents 1.2`|"
+     "contents 1.2: this response lacks one element that replica 1 should have had by then. This fault comes first, in lines 1 to 4: start here. The whole trace "
+     "is `contents 0.2`: see the end.||When it went wrong|"
+     "line 4 of the trace, 1.2: replica 1 read the list. Up to line 3 the session is accepted; line 4 makes it `contents 1.2`|"
      "the first 4 lines are enough to show it (`head -4`)||The response|line 4 of the trace, 1.2: replica 1 read the list|answered: (nothing)|"
      "[a] inserted by 1.1 (line 3), an earlier operation of replica 1|[a] is never deleted||Where to look|"
-     "Replica 1 answered what is right in 1.1 (line 3), and has received nothing since. Look at what replica 1 itself does between the two; behind a server, at what its answer to the replica's own change does there." + stop(4, "replica 1 reads the list")
+     "Replica 1's answer in 1.1 (line 3) is right, and it has received nothing since. Look at what replica 1 itself does between the two; behind a server, at what its answer to the replica's own change does there." + stop(4, "replica 1 reads the list")
      + "||What the verdict on the whole trace is about|line 7, 0.2: replica 0 read the list, answered (nothing): this response lacks one element that replica 0 should have had "
-     "by then|it lacks a||The list specifications|by the whole trace, strong and weak fail"),
+     "by then|it lacks a||The list specifications|for the whole trace: strong and weak fail"),
     ("a delete that meets an insert which did not know it", 2, "0 ins a 0 : a|0 ins b 1 : a b|0 ins c 2 : a b c|1 recv 0 3|1 read : a b c|1 del a : b c|"
      "0 ins d 2 : a b d c|1 recv 0 4|1 read : b c d",
      "When replica 0 inserted [d] (0.4, line 9), it had [c] already, and put [d] before it. That order must hold everywhere, but 1.3 (line 11) shows [d] behind [c]. Look at what that insert says, as replica 0 made it, and at where replica 1 placed it in line 10. Often the clock that decides between inserts does not advance when changes arrive, or not past the last element of a paste; or the neighbour is not found; or elements are stored in runs (blocks of several), and a run is split at a wrong place: deleted elements count too.|If the editor "
@@ -506,7 +506,7 @@ WORDS = [
      "had not seen."),
     ("a delete of one of two that were inserted at one place", 2, "0 ins a 0 : a|0 del a :|1 ins b 0 : b|1 recv 0 1|1 read : a b|1 recv 0 2|1 read : a",
      "It looks as if 0.2 (line 4), applied at replica 1, deleted b instead of a: look at how a replica that applies a delete finds the element, and at whether the recorder "
-     "writes the name of the element that was deleted.|If the editor sends positions, the position of 0.2 was perhaps not adjusted for the insert of b by 1.1 (line 5), which the author of 0.2 had not seen. At the place of a also b was inserted, and neither author had the other's insert. Look also at which of them comes first."),
+     "writes the name of the element that was deleted.|If the editor sends positions, the position of 0.2 was perhaps not adjusted for the insert of b by 1.1 (line 5), which the author of 0.2 had not seen. b was inserted at the same place as a, and neither author had the other's insert: look also at which of the two comes first."),
     ("doubled", 2, "0 ins a 0 : a|0 ins b 1 : a b|1 ins b 0 : b",
      "doubled: 0.2 and 1.1 insert the same name, b. An element is known by its name, so nothing else was judged.|"
      "line 4 of the trace, 0.2: replica 0 inserted b at position 1|line 5, 1.1: replica 1 inserted b at position 0||"
@@ -524,15 +524,15 @@ ALONE = "weak holds, strong doesn't: this passes, since only the weak list speci
 FAILS_WEAK = [
     # Where strong failed before, the session went wrong where weak fails.
     ("opposite orders after the cycle", f"{THREE_WAY}|1 recv 0 2|1 recv 2 1|1 read : a b|2 recv 0 2|2 recv 1 1|2 read : a b", "refused 2: ", [
-        "When it showed", "line 14 of the trace, 1.2: replica 1 read the list. Up to line 13 weak holds; line 14 leads to `refused 2`",
+        "When it showed", "line 14 of the trace, 1.2: replica 1 read the list. Up to line 13 the weak specification holds; line 14 makes it `refused 2`",
         "before it: replica 1's 1.1 (line 6) answered a x, which agrees with all responses up to then; since then it received 0.2 (line 12), 2.1 (line 13)",
         "[a] before [b]: line 14, 1.2: replica 1 read the list, answered [a] [b]",
         "[b] before [a]: line 11, 0.3: replica 0 read the list, answered [b] [a]", "strong and weak fail"]),
     ("a lost element after the cycle", f"{THREE_WAY}|1 recv 0 2|1 recv 2 1|1 read : b|0 read : b", "contents 1.2: ", [
-        "When it went wrong", "line 14 of the trace, 1.2: replica 1 read the list. Up to line 13 weak holds; line 14 leads to `contents 1.2`",
+        "When it went wrong", "line 14 of the trace, 1.2: replica 1 read the list. Up to line 13 the weak specification holds; line 14 makes it `contents 1.2`",
         "the first 14 lines are enough to show it (`head -14`)"]),
     ("a wrong position after the cycle", f"{THREE_WAY}|2 ins c 0 : x c b|0 read : b", "position 2.2: ", [
-        "When it went wrong", "line 12 of the trace, 2.2: replica 2 inserted c at position 0. Up to line 11 weak holds; line 12 leads to "
+        "When it went wrong", "line 12 of the trace, 2.2: replica 2 inserted c at position 0. Up to line 11 the weak specification holds; line 12 makes it "
         "`position 2.2`", "asked for: position 0; the answer has [x] there"]),
     ("a name twice", "0 ins a 0 : a|1 ins a 0 : a", "doubled: ", ["neither the strong nor the weak one was judged: both know an element by its "
                                                                  "name"])]
@@ -780,20 +780,20 @@ Only `delivered` (line 10) says that 0.2 (line 6) arrived at replica 1; no respo
 0.3 (line 7), made later, perhaps waits for it); or `delivered` was called too early. Look at what keeps changes waiting.
 
 In a debugger
-stop before line 6 of the trace, where replica 0 inserts b, and follow 0.2 to replica 1. In Python, put this where your code has the editor apply a change, local or remote (the recording has 5 lines then): \
+stop before line 6 of the trace, where replica 0 inserts b, and follow 0.2 to replica 1. In Python, put this right before the call that makes the editor apply a change, local or remote (there the recording has 5 lines): \
 if recording.lines() == 5: breakpoint()
 
 The list specifications
 """
 STATEMENTS = [
-    ("", "In Python, put this {} (the recording has 6 lines then): if recording.lines() == 6: breakpoint()"),
-    ("language python\n", "In Python, put this {} (the recording has 6 lines then): if recording.lines() == 6: breakpoint()"),
-    ("language javascript\n", "In JavaScript, put this {} (the recording has 6 lines then): if (recording.lines() === 6) debugger"),
-    ("language rust\n", 'In Rust, put this {} (the recording has 6 lines then): if recording.lines() == 6 {{ eprintln!("here") }} (on three lines, and set a breakpoint on the middle one)'),
-    ("language c\n", "In C, put this {} (the recording has 6 lines then): if (domepeeler_lines(recording) == 6) raise(SIGTRAP);"),
-    ("language emacs-lisp\n", "In Emacs Lisp, put this {} (the recording has 6 lines then): (when (= (domepeeler-lines recording) 6) (debug))"),
-    ("language cobol\n", "In Python, put this {} (the recording has 6 lines then): if recording.lines() == 6: breakpoint()"),
-    ("language rust\nlanguage c\n", 'In Rust, put this {} (the recording has 6 lines then): if recording.lines() == 6 {{ eprintln!("here") }} (on three lines, and set a breakpoint on the middle one)'),
+    ("", "In Python, put this {} (there the recording has 6 lines): if recording.lines() == 6: breakpoint()"),
+    ("language python\n", "In Python, put this {} (there the recording has 6 lines): if recording.lines() == 6: breakpoint()"),
+    ("language javascript\n", "In JavaScript, put this {} (there the recording has 6 lines): if (recording.lines() === 6) debugger"),
+    ("language rust\n", 'In Rust, put this {} (there the recording has 6 lines): if recording.lines() == 6 {{ eprintln!("here") }} (on three lines, and set a breakpoint on the middle one)'),
+    ("language c\n", "In C, put this {} (there the recording has 6 lines): if (domepeeler_lines(recording) == 6) raise(SIGTRAP);"),
+    ("language emacs-lisp\n", "In Emacs Lisp, put this {} (there the recording has 6 lines): (when (= (domepeeler-lines recording) 6) (debug))"),
+    ("language cobol\n", "In Python, put this {} (there the recording has 6 lines): if recording.lines() == 6: breakpoint()"),
+    ("language rust\nlanguage c\n", 'In Rust, put this {} (there the recording has 6 lines): if recording.lines() == 6 {{ eprintln!("here") }} (on three lines, and set a breakpoint on the middle one)'),
 ]
 # By language the statement before the second of two receipts, in lines 5 and 6, that stand together.
 FOR_TWO = {
@@ -802,7 +802,7 @@ FOR_TWO = {
     "c": "if (domepeeler_lines(recording) == 4 || domepeeler_lines(recording) == 5) raise(SIGTRAP);",
     "emacs-lisp": "(when (memq (domepeeler-lines recording) '(4 5)) (debug))",
 }
-WHERE = "where your code reads the list"
+WHERE = "right before the call that reads the list"
 # What stands beside a trace, and the section of the user's notes.
 NOTES = [
     ("note seed 17\n", "seed 17"), ("note seed 17\nnote [b] line 5, of <b>\n", "seed 17|[b] line 5, of <b>"), ("note \n", ""), ("note\n", ""),
@@ -1028,8 +1028,8 @@ def beginning(tally: Tally, program: str, text: str, report: dict, said: str) ->
     tally.check("refused: what it showed then, and the whole trace", steps == wanted, f"{text}{report}\n{said}")
     titles = [line for line in front.splitlines() if line.startswith("What the")]
     tally.check("refused: under which title", titles == ["What these responses show: a circle, which no order allows"], said)
-    others = " too, by other responses" if behind["k"] == report["k"] else ", told at the end"
-    ending = f" This is what went wrong first, within the first {last} lines: begin with it. The verdict on the whole trace is `refused {report['k']}`{others}."
+    others = " as well, because of other responses" if behind["k"] == report["k"] else ": see the end"
+    ending = f" This fault comes first, in lines 1 to {last}: start here. The whole trace is `refused {report['k']}`{others}."
     headline = said.splitlines()[0]
     tally.check("refused: the whole trace's number", (ending in headline if is_other else "This is what went wrong first" not in headline)
                 and said.startswith(f"refused {behind['k']}: "), said)
@@ -1054,11 +1054,11 @@ def sooner(tally: Tally, program: str, text: str, report: dict, said: str) -> tu
     told = paragraph(said, "When it showed" if first["verdict"] == "refused" else "When it went wrong").splitlines()
     wanted = count < max(named)
     is_right = bool(told) and told[0].startswith(f"  line {count} of the trace, ") and (
-        first["verdict"] == "refused" or told[1:] == [f"  the first {count} lines are enough to show it (`head -{count}`)"]) and told[0].endswith(f". Up to line {count - 1} the session is accepted; line {count} leads to `{of_first}`")
+        first["verdict"] == "refused" or told[1:] == [f"  the first {count} lines are enough to show it (`head -{count}`)"]) and told[0].endswith(f". Up to line {count - 1} the session is accepted; line {count} makes it `{of_first}`")
     tally.check("a fault: when it went wrong", is_right if wanted else not told, f"{text}{report}\n{said}")
     headline, is_other = said.splitlines()[0], of_whole != of_first
     tally.check("a fault: its headline", headline.startswith(of_first.partition(" ")[0]) and headline.endswith(
-        f" This is what went wrong first, within the first {count} lines: begin with it. The verdict on the whole trace is `{of_whole}`, told at the end.") == is_other
+        f" This fault comes first, in lines 1 to {count}: start here. The whole trace is `{of_whole}`: see the end.") == is_other
                 and ("the whole trace" in headline) == is_other, f"{text}{report}\n{said}")
     tally.check("a fault: what the whole trace names", bool(paragraph(said, "What the verdict on the whole trace is about")) == is_other,
                 f"{text}{report}\n{said}")
@@ -1235,7 +1235,7 @@ def places(tally: Tally, program: str, folder: str) -> None:
     for name, wanted in FOR_TWO.items():
         got = explain(program, ["--language", name, "-"], text_of(2, "0 ins a 0 : a|0 ins b 1 : a b|1 recv 0 1|1 recv 0 2|1 read : a").encode()).out.decode()
         tally.check(f"a debugger: {name}, receipts that stand together", paragraph(got, "In a debugger").endswith(
-            f"(the recording has 5 lines then; or 4, if one call wrote lines 5 to 6): {wanted}"), got)
+            f"(there the recording has 5 lines, or 4 if one call wrote lines 5 to 6): {wanted}"), got)
     undelivered(tally, program, folder)
     path.write_text(text_of(2, PLACED))
     for beside, wanted in NOTES:
@@ -1694,9 +1694,9 @@ def kinds(tally: Tally, program: str, folder: str) -> None:
     """The kind of the editor, which a user names once: the words leave out what such an editor can't have, and say so where none is named."""
     path = Path(folder, "kinds.trace")
     path.write_text(text_of(2, "0 ins a 0 : a|1 ins b 0 : b|0 recv 1 1|1 recv 0 1|0 read : a b|1 read : b a"))
-    hint = b"\nName the editor's kind, by --editor or DOMEPEELER_EDITOR, and the words leave out what it can't have: neighbours ("
+    hint = b"\nTo leave out causes that your editor can't have, name its kind by --editor or DOMEPEELER_EDITOR: neighbours ("
     look = {"": "If the list is sorted by position identifiers, look at", "neighbours": "(neighbour, number, author)", "tree": "(parent, side, number, author)",
-            "identifiers": "Print both identifiers", "positions": "Client and server must adjust alike"}
+            "identifiers": "Print both identifiers", "positions": "Client and server must adjust in the same way"}
     for kind, wanted in look.items():
         got = explain(program, [*(["--editor", kind] if kind else []), str(path)])
         named = os.environ | ({"DOMEPEELER_EDITOR": kind} if kind else {})
@@ -1724,7 +1724,7 @@ def kinds(tally: Tally, program: str, folder: str) -> None:
     tally.check("kinds: of many", many.returncode == 1 and "rint both identifiers" in explained_there and "If the list is sorted" not in explained_there
                 and json.loads(many.stdout)["causes"] == ["concurrent", "identifiers"], (many, explained_there))
     turned = str(ROOT / "examples" / "prosemirror_text_changes_places.trace")
-    own = "the replica's own changes that are still on their way are adjusted for what arrives (each for the other as it stood before), and at how it takes them back and applies them anew"
+    own = "the replica's own changes that are still on their way are adjusted for what arrives, and what arrives for them (each for the other's form from before). If the editor takes its own changes back and applies them again, look at how."
     of_turned = {"": "(rebasing), look at where that puts them.", "neighbours": "once both are inserted, it must never change", "positions": f"Look at how {own}",
                  "identifiers": "Print the position identifiers of a, x and b at line 7."}
     for kind, wanted in of_turned.items():
@@ -1735,7 +1735,7 @@ def kinds(tally: Tally, program: str, folder: str) -> None:
     for kind, line in ("neighbours", 9), ("positions", 12):
         told = explain(program, ["--editor", kind, str(path)]).out.decode()
         tally.check(f"kinds: {kind}: what its author alone shows", (f"Look first at what is done in line 12: at how {own}" in told) == (kind == "positions")
-                    and f"\n  stop before line {line} of the trace" in told and ("at what its change carries." in told) == (kind == "neighbours"), told)
+                    and f"\n  stop before line {line} of the trace" in told and ("with what its message says." in told) == (kind == "neighbours"), told)
     path.write_text(text_of(2, "0 ins a 0 : a|0 ins b 1 : a b|1 recv 0 2|1 del a : b|0 recv 1 1|0 del a :"))
     nothing = "It looks as if 0.3 (line 8) deleted b. Its own element, a, was already deleted there, by 1.1 (line 6): such a delete must change nothing."
     for kind in "neighbours", "positions":
@@ -1769,7 +1769,7 @@ FIRST_TOLD = {
     "own changes on their way": ("positions", 3, "0 ins a 0 : a|1 recv 0 1|2 recv 0 1|1 read : a|2 read : a|1 ins b 1 : a b|1 del a : b|0 ins c 1 : a c|2 recv 0 2|2 read : a c|1 recv 0 2|1 read : b",
         "When 0.2 came in line 13, replica 1 had changes of its own on their way, which its author had not seen: the insert of b by 1.2 (line 8) and the delete of a by 1.3 (line 9). Replica 2 "
         "received 0.2 too, and shows c in 2.2 (line 12). So c perhaps came well, and one of these deletes took it along. Look at how the replica's own changes that are still on their way are "
-        "adjusted for what arrives (each for the other as it stood before), and at how it takes them back and applies them anew, if it does."),
+        "adjusted for what arrives, and what arrives for them (each for the other's form from before). If the editor takes its own changes back and applies them again, look at how."),
     "a delete on its way that meets the same": ("positions", 2, "0 ins a 0 : a|0 ins b 1 : a b|1 recv 0 2|1 read : a b|1 del a : b|0 del a : b|0 ins c 1 : b c|1 recv 0 4|1 read : b",
         "When 0.4 came in line 10, replica 1 had changes of its own on their way, which its author had not seen: the delete of a by 1.2 (line 7). So c perhaps came well, and one of these deletes took "
         "it along, perhaps that of a, which 0.3 (line 8) deletes too. Look at"),
@@ -1782,14 +1782,14 @@ FIRST_TOLD = {
         "(line 7). Look at what takes the place of its list"),
     "a place from before what came": ("neighbours", 2, "0 ins a 0 : a|0 ins b 1 : a b|0 ins c 2 : a b c|0 ins d 3 : a b c d|1 recv 0 4|1 del a : b c d|0 recv 1 1|0 ins e 2 : b e c d",
         "[e] stands where position 2 was in 0.4 (line 6): since then replica 0 received the delete of a by 1.1 (line 8). Does the editor keep something from before that, such as a place, an offset, an "
-        "index or a copy of the list? Then what arrives must change it, each kind of change."),
+        "index or a copy of the list? Then every kind of change that arrives must update it."),
     "an order that a delete hides": ("neighbours", 3, "0 ins n 0 : n|1 ins o 0 : o|2 recv 0 1|2 recv 1 1|2 read : n o|2 ins l 1 : n l o|0 del n :|0 recv 1 1|0 read : o|0 recv 2 2|0 read : o l",
         "[l] was put directly behind n (0.1 (line 3)), and n and [o] were inserted at the front without knowing of each other. n is deleted at replica 0, which never showed both: perhaps it has these "
         "two in another order than replica 2, and [l] follows n there. So look at the order of concurrent inserts, n and [o], first: at what is done in line 5, line 6 and line 10."),
     "one replica alone in its order": ("positions", 3, "2 ins a 0 : a|2 ins b 0 : b a|1 ins c 0 : c|2 recv 1 1|2 read : b c a|0 recv 1 1|0 recv 2 1|0 read : a c|1 recv 2 1|1 read : a c",
         "Replicas 0 and 1 show a before c. Replica 2 alone shows them the other way round, first in 2.3 (line 7): so look first at what it did in line 6, when 1.1 came. It had two changes of its own on "
         "their way then: the insert of a by 2.1 (line 3) and the insert of b by 2.2 (line 4). What comes must be adjusted for the first of these, the result for the second, and so on; and each of "
-        "these for what comes as it is at its turn. That holds too for what waits in a buffer."),
+        "these for the incoming change in the form that it has at that step. That holds for changes in a buffer too."),
     "one replica alone, with one change on its way": ("positions", 3, "2 ins a 0 : a|1 ins c 0 : c|2 recv 1 1|2 read : c a|0 recv 1 1|0 recv 2 1|0 read : a c|1 recv 2 1|1 read : a c",
         "Replicas 0 and 1 show a before c. Replica 2 alone shows them the other way round, first in 2.2 (line 6): so look first at what it did in line 5, when 1.1 came. It had one change of its own on "
         "its way then, the insert of a by 2.1 (line 3). Each of the two must be adjusted for the other."),
@@ -1832,8 +1832,8 @@ def first_told(tally: Tally, program: str, folder: str) -> None:
                                "2 recv 0 3|2 recv 1 3|2 read : a d c"))
     for kind in "neighbours", "identifiers":
         told = explain(program, ["--editor", kind, str(path)]).out.decode()
-        tally.check(f"first told: {kind}: an own place that its author alone shows", ("them: a local insert must find its place by the same search as an incoming one. Replicas 0 and 2, to which it came, show it "
-                    "elsewhere than replica 1 alone, which inserted it: so begin with this." in told) == (kind == "neighbours"), told)
+        tally.check(f"first told: {kind}: an own place that its author alone shows", ("them: a local insert must find its place by the same search as an incoming one. Replicas 0 and 2 received it, and agree on "
+                    "its place. Replica 1 alone, which inserted it, shows it elsewhere: so start with this." in told) == (kind == "neighbours"), told)
         tally.check(f"first told: {kind}: an own place that its author alone shows: the debugger", ("\n  stop before line 9 of the trace, where replica 1 inserts c" in told) == (kind == "neighbours"), told)
     path.write_text(text_of(3, "0 ins a 0 : a|0 ins b 1 : a b|1 recv 0 2|2 recv 0 2|1 read : a b|2 read : a b|1 del a : b|0 del b : a|1 recv 0 3|1 read :|2 recv 0 3|2 read : a|0 recv 1 2|0 read : a|"
                                "2 recv 1 2|2 read : a"))
@@ -2466,7 +2466,7 @@ def small(tally: Tally, program: str, folder: str) -> None:
             wrong["turned"] += bool(turned)
             look = paragraph(said, "Where to look").splitlines()
             is_lost = re.match(r"  Look first at whether \S+ \(line (\d+)\)", look[0])
-            alone = next(filter(None, (re.match(r"  Replica \d+, which inserted \[\S+\] \(\S+, line (\d+)\), shows it .*? until its next receipt \(line (\d+)\)", line) for line in look)), None)
+            alone = next(filter(None, (re.match(r"  Replica \d+ inserted \[\S+\] \(\S+, line (\d+)\) .*?\. No other replica shows them so\. After its next receipt \(line (\d+)\)", line) for line in look)), None)
             if is_lost:
                 stop_lines = [int(is_lost[1])]
             elif alone:
@@ -2575,7 +2575,7 @@ def weak(tally: Tally, program: str, folder: str) -> None:
         if "opposite" in name:
             usual = explain(program, ["-"], text_of(3, entries).encode()).out
             tally.check(f"weak: {name}, where strong is asked for", usual.startswith(b"refused 3: ") and
-                        b"Up to line 10 the session is accepted; line 11 leads to `refused 3`" in usual, usual)
+                        b"Up to line 10 the session is accepted; line 11 makes it `refused 3`" in usual, usual)
     for name in "lost_element", "crdt_el_wrong_delete", "libinfinity_replicas_disagree", "crdt_el_replicas_disagree":
         trace = (ROOT / f"examples/{name}.trace").read_bytes()
         got, without = (explain(program, [*goal, "-"], trace) for goal in (["--weak"], []))

@@ -292,7 +292,7 @@ def options_of_ci(tally: Tally, program: str, folder: str, path: str, step: str)
     counting.chmod(0o755)
     for words in ["--program", "./counting", "--editor", "tree"], ["--program=./counting", "--editor=tree"]:
         done = in_ci(project, path, f"{step} {' '.join(words)}", {})
-        tally.check(f"CI: options for both tools: {words}", done.returncode == 1 and "Name the editor's kind" not in done.stdout and Path(project, "judged/1.html").is_file() and
+        tally.check(f"CI: options for both tools: {words}", done.returncode == 1 and "To leave out causes that your editor can't have" not in done.stdout and Path(project, "judged/1.html").is_file() and
                     len(Path(project, "counted").read_text()) > 3, done)
         Path(project, "counted").unlink()
     with ThreadPoolExecutor(1) as pool:
@@ -385,28 +385,28 @@ TIED = "0 ins a 0 : a|1 ins b 0 : b|0 recv 1 1|0 read : a b|1 recv 0 1|1 read :"
 IN_TURN = "0 ins a 0 : a|1 recv 0 1|1 ins b 1 : a b|0 recv 1 1|0 read : a b|1 read : a b|0 ins c 2 : a b c|1 recv 0 3|1 read : a b c"
 IN_COMMON = {
     "deleted twice": ([(5, BEGUN_TWICE)], [(2, RIGHT_TWICE), (10, RIGHT_ONCE)], [
-        "  before each: a delete came whose element was deleted there already (in 2 of those that pass)",
-        "  before each: a change came whose author had not seen one of the receiver's own (in 2 of those that pass)"]),
+        "  before each: a delete arrived whose element was deleted there already (also in 2 of those that pass)",
+        "  before each: a change arrived whose author had not seen one of the receiver's own changes (also in 2 of those that pass)"]),
     # Of 48 lists that are right 12 come so: one in each failing session, two in each of the four that pass.
     "at one place": ([(4, f"{TIED} b a")], [(4, f"{TIED} a b"), (4, IN_TURN)], [
-        "  right before each: an insert came to a place where an element stood that its author had not seen (before 25 % of the lists that are right)",
-        "  right before each: a change came whose author had not seen one of the receiver's own (before 25 % of the lists that are right)",
+        "  right before each: an insert arrived at a place where an element stood that its author had not seen (also before 25 % of the right lists)",
+        "  right before each: a change arrived whose author had not seen one of the receiver's own changes (also before 25 % of the right lists)",
         "  not needed: 4 fail without any delete"]),
     "none that pass, and few lists": ([(3, BEGUN_ONCE)], [], []),
     # Of 24 lists that are right 8 come so.
     "none that pass": ([(8, f"{TIED} b a")], [], [
-        "  right before each: an insert came to a place where an element stood that its author had not seen (before 33 % of the lists that are right)",
-        "  right before each: a change came whose author had not seen one of the receiver's own (before 33 % of the lists that are right)",
+        "  right before each: an insert arrived at a place where an element stood that its author had not seen (also before 33 % of the right lists)",
+        "  right before each: a change arrived whose author had not seen one of the receiver's own changes (also before 33 % of the right lists)",
         "  not needed: 8 fail without any delete"]),
     "too few": ([(2, BEGUN_TWICE)], [(10, RIGHT_ONCE)], []),
     "nothing stands out": ([(3, BEGUN_TWICE)], [(9, RIGHT_TWICE)], []),
 }
 # By planted bug what the first line says, by what the bug is.
 OF_PLANTED = {
-    "tombstone": "an insert came whose neighbour was deleted there", "tie": "an insert came to a place where an element stood that its author had not seen",
-    "clock": "a replica inserted right behind what another one had inserted", "overtaking": "several changes came at once",
-    "mapping": "an insert came whose author had not seen a delete that was there", "unmoved": "a delete came whose author had not seen an insert that was there",
-    "behind": "an insert came to a place where an element stood that its author had not seen", "twice": "a delete came whose element was deleted there already",
+    "tombstone": "an insert arrived whose neighbour was deleted there", "tie": "an insert arrived at a place where an element stood that its author had not seen",
+    "clock": "a replica inserted right behind what another one had inserted", "overtaking": "several changes arrived at once",
+    "mapping": "an insert arrived whose author had not seen a delete that was there", "unmoved": "a delete arrived whose author had not seen an insert that was there",
+    "behind": "an insert arrived at a place where an element stood that its author had not seen", "twice": "a delete arrived whose element was deleted there already",
     "none": "", "none_behind_server": "",
 }
 
@@ -419,7 +419,7 @@ def what_is_common(tally: Tally, program: str, folder: str) -> None:
                       for of in range(count)})
         counts = [sum(count for count, _ in sessions) for sessions in (wrong, right)]
         beside = f", beside {counts[1]} sessions that pass" if right else ""
-        head = f"What {counts[0]} failures have in common{beside}. Look first at what your editor does then; these are counts, and the first line tells most:"
+        head = f"What {counts[0]} failures have in common{beside}. Look first at what your editor does in that situation; the most telling one comes first:"
         for words in [], ["--failing"]:
             done = subprocess.run([TOOL, "--program", program, *words, place], capture_output=True, text=True)
             said = done.stdout.partition(f"\n{sum(counts)} traces: ")[2].splitlines()[1:]
@@ -930,7 +930,7 @@ def refused_calls(tally: Tally, program: str, folder: str) -> None:
     said = run(EXPLAIN, ["--program", program, f"{folder}/bad.trace"]).out.decode()
     tally.check("refused calls: explain, of what is wrong by itself", said.startswith("contents 0.1: ") and
                 f"\nWhat this verdict may hide\n  {NEVER_CAME}\n" in said and
-                "\nWhere to look\n  Look first at the call that was refused, as told above: what it says is not in the trace.\n" in said, said)
+                "\nWhere to look\n  Look first at the call that was refused (see above): what it was to record is not in the trace.\n" in said, said)
     told = ["a call was refused", "::error::\x1b"]
     got = run(EXPLAIN, ["--program", program, *(word for one in told for word in ("--refused", one)), f"{folder}/fine.trace"])
     tally.check("refused calls: explain, as a recorder tells it", got.status == 0 and
@@ -956,7 +956,7 @@ def grouped(tally: Tally, program: str, folder: str) -> None:
     got = judge(program, ["--junit", f"{folder}/junit.xml", folder])
     rows = [cells(line) for line in got.out.decode().splitlines()]
     tally.check("grouped: the rows", [(Path(row[0]).stem, row[6]) for row in rows[:-1]] == [
-        ("file", "alike"), ("a", "1"), ("c", "0"), ("d", "0"), ("e", "0")] and rows[-1] == ("5 traces: 5 contents",), rows)
+        ("file", "similar"), ("a", "1"), ("c", "0"), ("d", "0"), ("e", "0")] and rows[-1] == ("5 traces: 5 contents",), rows)
     tally.check("grouped: JUnit has each", len(list(xml.parse(f"{folder}/junit.xml").getroot().iter("failure"))) == 5)
     objects = [json.loads(line) for line in judge(program, ["--json", folder]).out.decode().splitlines()]
     tally.check("grouped: JSON has each", sorted((Path(row["file"]).stem, row["causes"][-1], row.get("place")) for row in objects) == [
@@ -2216,7 +2216,7 @@ def weak_junit(tally: Tally, program: str, folder: str) -> None:
                     and "in the end replicas 0, 1 and 2 show different lists" in first.text, first.text)
         first, = cases["opposite.trace"]
         tally.check(f"weak: JUnit's failed case {more}", first.tag == "failure" and first.get("message").startswith("refused 2: ") and
-                    "Up to line 13 weak holds; line 14 leads to `refused 2`" in first.text, first.text)
+                    "Up to line 13 the weak specification holds; line 14 makes it `refused 2`" in first.text, first.text)
     Path(folder, "alone.trace.lines").write_text("40\n")
     got = judge(program, ["--weak", "--junit", path, folder])
     suite = xml.parse(path).getroot().find("testsuite")
@@ -2239,7 +2239,7 @@ def weak_in_ci(tally: Tally, program: str, folder: str) -> None:
     tally.check("weak: annotations of GitHub", done.returncode == 1 and [line[:line.index("::", 2) + 13] for line in told] == [
         "::error file=recordings/lost.trace,title=recordings/lost.trace%3A contents::contents 1.",
         "::error file=recordings/opposite.trace,title=recordings/opposite.trace%3A refused::refused 2: "], told)
-    tally.check("weak: explained where weak fails", "Up to line 13 weak holds; line 14 leads to `refused 2`" in
+    tally.check("weak: explained where weak fails", "Up to line 13 the weak specification holds; line 14 makes it `refused 2`" in
                 Path(project, "judged/2.html").read_text() and done.stdout.endswith(
                     "2 failed: judged/junit.xml has them all, and judged/1.html is the page of the first\n"), done.stdout)
     done = in_ci(project, path, f"{script} --unequal", github)

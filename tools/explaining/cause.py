@@ -19,18 +19,19 @@ NEVER_SENT = ("Look first at whether replica {author} has sent {changes} at all:
               "wrong place.")
 OTHERS_HAVE = "all other changes of replica {author} have one"
 ELSEWHERE_ONE = {True: "at another replica it has one", False: "at other replicas they have some"}
-PUT_AT_ONCE = {True: " At the place of {element} also {others} was inserted, and neither author had the other's insert. Look also at which of them comes first.",
-               False: " At the place of {element} also {others} were inserted; their authors did not have {element}, nor its author theirs. Look also at which of "
-                      "them comes first."}
-OWN_ADJUSTED = "how the replica's own changes that are still on their way are adjusted for what arrives (each for the other as it stood before), and at how it takes them back and applies them anew, if it does."
-EMPTIED = ("Before that, in line {line}, replica {replica} received {change}, which deletes {element}, though it had deleted that itself, by {other}. Each becomes nothing for the other, and must still be counted as "
-           "received, by both sides alike (numbers of messages, what waits for its acknowledgement): else what comes later is adjusted once too often, or too seldom.")
+PUT_AT_ONCE = {True: " {others} was inserted at the same place as {element}, and neither author had the other's insert: look also at which of the two comes first.",
+               False: " {others} were inserted at the same place as {element}. Their authors did not have {element}, and its author did not have them: look also at "
+                      "which of them comes first."}
+OWN_ADJUSTED = ("how the replica's own changes that are still on their way are adjusted for what arrives, and what arrives for them (each for the other's form from before). If the editor takes "
+                "its own changes back and applies them again, look at how.")
+EMPTIED = ("Before that, in line {line}, replica {replica} received {change}, which deletes {element}, though it had deleted that itself, by {other}. Then neither delete has anything left to delete at the other's side, "
+           "but both sides must still count it as received (message numbers, acknowledgements). Else later changes are adjusted once too often, or too seldom.")
 NONE_ON_WAY = "No change of its own was on its way then: so look at what the server made of {came}, if it adjusts positions, and at what was sent before it."
 ONE_ON_WAY = "{who} had one change of its own on its way then, {own}. Each of the two must be adjusted for the other."
 SEVERAL_ON_WAY = ("{who} had {count} changes of its own on their way then: {own}. What comes must be adjusted for the first of these, the result for the second, and so on; "
-                  "and each of these for what comes as it is at its turn. That holds too for what waits in a buffer.")
+                  "and each of these for the incoming change in the form that it has at that step. That holds for changes in a buffer too.")
 DELETED_TWICE = ("Before that, {element} was deleted at replica {replica} more than once: by {other}, and by {change}, which came in line {line}. If the editor counts how many elements it shows (in blocks, or "
-                 "below the nodes of a tree), it must take each off once alone: else it counts a local position wrongly from then on.")
+                 "below the nodes of a tree), it must subtract each only once. Else all later local positions are counted wrongly.")
 BY_ITSELF = "perhaps deleted elements are thrown away there, changes that were held back are applied, or a copy of the list that is shown is made anew."
 
 

@@ -66,7 +66,7 @@ UNKNOWN = ("No line inserts {names}. Perhaps the insert was not recorded, or und
            "what was there, and the others receive it.")
 REPLACED = ("Replica {replica} showed {missing} in {before}; since then it only received {came}, and nothing that came deletes {missing}. Look at what {came_first} does there: "
             "does an arriving state replace the replica's own, or does the editor take back its own changes when others' arrive?")
-VANISHED = "Replica {replica} answered what is right in {before}, and has received nothing since. Look at what replica {replica} itself does between the two{unrecorded}"
+VANISHED = "Replica {replica}'s answer in {before} is right, and it has received nothing since. Look at what replica {replica} itself does between the two{unrecorded}"
 TOO_MUCH = ("It looks as if {deletes}{applied} deleted {missing} along with {theirs}: {missing} stood there in {before}, and no delete of {it} has come there. Look at where "
             "the replica begins to delete there, and at how many elements it deletes.")
 NOT_SEEN = " The author of {changes} had not seen {missing}: what deletes a range, by elements or positions, must leave out what its author had not seen."
@@ -101,7 +101,7 @@ SPLIT = ("what {new} there to the elements beside it: is a run (block) of them s
 OWN_LOST = ", and {missing} {is_} not there: perhaps that delete now hits {it}"
 HEALED = "Later replica {other} reads another list in {after} than in {before}, though it received and changed nothing between. Something that is not recorded did that: "
 BY_SERVER = ("behind a server, perhaps its answer to the replica's own change. Then server and replica make different things of one change: look at which changes each of them "
-             "adjusts it for. Client and server must adjust alike, and each change once.")
+             "adjusts it for. Client and server must adjust in the same way, and each change only once.")
 UNRECORDED = {True: "; behind a server, at what its answer to the replica's own change does there.",
               False: ": are deleted elements thrown away there, changes that were held back applied, or a copy of the list made anew?"}
 

@@ -13,7 +13,7 @@ from .telling import at, counted, joined, listed
 NUMBERS_OF_INSERTS = (" Often the clock that decides between inserts does not advance when changes arrive, or not past the last element of a paste; or the neighbour is not found; "
                       "or elements are stored in runs (blocks of several), and a run is split at a wrong place{deleted}.")
 OF_INSERTS = {
-    "": NUMBERS_OF_INSERTS, NEIGHBOURS: NUMBERS_OF_INSERTS, POSITIONS: " Client and server must adjust alike, and each change once.", IDENTIFIERS: "",
+    "": NUMBERS_OF_INSERTS, NEIGHBOURS: NUMBERS_OF_INSERTS, POSITIONS: " Client and server must adjust in the same way, and each change only once.", IDENTIFIERS: "",
     TREE: " Often the clock that decides between children does not advance when changes arrive, or not past the last element of a paste; or the parent is not the one that the "
           "author meant{deleted}.",
 }
@@ -33,20 +33,20 @@ ADJUSTS = "how what comes and the replica's own changes that are still on their 
 BESIDE_GONE = ("{passed} was put {side} {gone} ({insert}), which is deleted at replica {replica} by now: so {element} belongs beside a deleted element. Look at how an insert finds its "
                "place there; in a tree of elements, at how the children of a deleted one are shown: all of its left side come before all of its right side.")
 NUMBERS = ("If the editor decides by numbers (a clock, ids) which of two inserts at one place comes first, look at theirs: {element} stands behind "
-           "{passed}, which replica {replica} had already. The number that {element} has must be greater than {theirs}; perhaps it is not. Usual causes: "
+           "{passed}, which replica {replica} had already. So the number of {element} must be greater than {theirs}; perhaps it is not. Usual causes: "
            "{causes}ids are compared as text, so 10 comes before 9.")
 NUMBERS_TREE = ("Look at where a new child is put: {element} stands behind {passed}, which replica {replica} had already. Perhaps its parent is not the one that was meant; or the place beside a "
                 "sibling, with all that hangs on that, is not found; or siblings stand in the order of numbers, and the one of {element} is not greater than {theirs} (usual causes: "
                 "{causes}ids are compared as text).")
 KEPT_PLACE = ("{came} came to replica {replica} in line {line}, beside {own}, which the replica had inserted itself before by {insert}. Does the editor keep a place, or bounds, from its last "
-              "insert? Then what arrives there must change these.")
+              "insert? Then what arrives there must update these.")
 STALE = ("[{element}] stands where position {at} was in {before}: since then replica {replica} received {came}. Does the editor keep something from before that, such as a place, an offset, an index "
-         "or a copy of the list? Then what arrives must change it, each kind of change.")
+         "or a copy of the list? Then every kind of change that arrives must update it.")
 CLOCK = {True: "the clock does not advance with each insert; ", False: "the clock does not advance when changes arrive, or when one that was held back is applied; the replica's number is compared before the clock; "}
 BESIDE_DELETED = ("If inserts find their place by a neighbour, look at inserts beside deleted elements: {which}. If replicas throw "
                   "deleted elements away, nothing says then where the insert belongs; if they keep them, the search for its place must treat them like "
                   "elements that are shown.")
-ALONE_WITH_OWN = " Replicas {others}, to which it came, show it elsewhere than replica {replica} alone, which inserted it: so begin with this."
+ALONE_WITH_OWN = " Replicas {others} received it, and agree on its place. Replica {replica} alone, which inserted it, shows it elsewhere: so start with this."
 OWN_PLACE = ("When replica {replica} inserted [{element}] (line {line}), {gone} had been deleted at its place. If deleted elements are kept, be it for a while, look at where its own list has the new one among "
              "them: a local insert must find its place by the same search as an incoming one.")
 ARRIVED_BESIDE = "{element} came to replica {replica} in line {line}, where its {neighbours} {gone} had been deleted"
@@ -65,9 +65,9 @@ IN_RANGE = ("[{new}] belongs between {left} and {right}, and both had been delet
 SETTLED = ("Look at where a replica places an incoming insert beside a deleted element: [{first}] was put before [{middle}] ({op_first}), and [{then}] behind it ({op_then}), so "
               "[{middle}] settles their order, also where it is deleted; yet {wrong} shows them the other way round. {then_what}")
 SETTLED_BY = {
-    "": "No rule for concurrent inserts at one place may decide here.",
-    NEIGHBOURS: "No rule for concurrent inserts at one place may decide here: the search for the place must still find [{middle}], or what stood for it.",
-    TREE: "No rule for concurrent inserts at one place may decide here: look at how the children of [{middle}] and of its neighbours are ordered and shown where it is deleted.",
+    "": "This is not for the rule on concurrent inserts to decide.",
+    NEIGHBOURS: "This is not for the rule on concurrent inserts to decide: the search for the place must still find [{middle}], or what stood for it.",
+    TREE: "This is not for the rule on concurrent inserts to decide: look at how the children of [{middle}] and of its neighbours are ordered and shown where it is deleted.",
     IDENTIFIERS: "Print the identifiers of [{first}], [{middle}] and [{then}] at both replicas: they must rise in this order. If they do not, look at how the one of [{first}] or "
                  "[{then}] was made; if they do, at how they are compared, and at the search for a place.",
     POSITIONS: "Where [{middle}] is deleted both stand at one position, and that does not tell which comes first: look at what an insert is adjusted for at an equal position, on the "
@@ -92,7 +92,7 @@ RULES = {"": RULE, NEIGHBOURS: RULE, IDENTIFIERS: "",
                     "replica's own changes that are still on their way.",
          TREE: " Children of one parent must stand in one order everywhere (such as by the replicas' numbers), and each with all that hangs on it."}
 PRINT = {  # what tells a fault of what is sent from one of how it is applied
-    "": "", POSITIONS: " Client and server must adjust alike, and each change once.",
+    "": "", POSITIONS: " Client and server must adjust in the same way, and each change only once.",
     NEIGHBOURS: " Print what replicas {one} and {other} keep of both (neighbour, number, author): if it differs, look at what is sent and what changes it later; if not, at how the "
                 "place of an incoming insert is found.",
     TREE: " Print what replicas {one} and {other} keep of both (parent, side, number, author): if it differs, look at what is sent and what changes it later; if not, at how children "
@@ -103,10 +103,10 @@ PRINT = {  # what tells a fault of what is sent from one of how it is applied
 ODD_ONE = ("Replicas {others} show {one} before {two}. Replica {odd} alone shows them the other way round, first in {operation}: so look first at what it did in line {line}, when {came} came. {own}")
 MOVED_OR_TIED = ("Look at how a position is adjusted where a change arrives: the position of {element} was perhaps not adjusted for {changes}, which "
              "replica {replica} knew and the author of {element} did not{back}. Or look at the order of concurrent inserts: {first} and {then} were inserted without knowing of each "
-             "other, and were shown in two different orders. Use a rule that gives the same order everywhere (such as the replicas' numbers). Client and server must adjust alike, and each change once.")
+             "other, and were shown in two different orders. Use a rule that gives the same order everywhere (such as the replicas' numbers). Client and server must adjust in the same way, and each change only once.")
 EITHER = ("Look at the order of concurrent inserts: {first} and {then} were inserted at one place without knowing of each other, and were shown in two "
           "different orders. Either the position of {element} was not adjusted for {changes}, which replica {replica} knew and the author of {element} did not{back}; "
-          "or the rule that orders them is not the same everywhere. Client and server must adjust alike, and each change once.")
+          "or the rule that orders them is not the same everywhere. Client and server must adjust in the same way, and each change only once.")
 REBASED = ("Replica {replica} inserted both {one} and {two} itself. If the editor takes back its own changes when others' arrive, and applies them anew (rebasing), look at "
            "where that puts them.")
 LET_OUT = (" [{old}] came to replica {replica} with others, and no list was shown between (line {first} to line {last}): perhaps out of a waiting room. Look at whether a change that is let out of there does all "
@@ -117,16 +117,16 @@ OF_AUTHOR_OR_PLACE = "Look at what that insert says, as replica {author} made it
 BETWEEN_THE_TWO = "Look at what replica {author} did between the two"
 SEEN_IN_CYCLE = ("When replica {author} inserted [{new}] ({later}, line {line}), it had [{old}] already{since}, and put [{new}] {side} it: look at whether that insert says so too, and by "
                  "its number.{numbers}{let_out}")
-SHOWN_ALONE = ("Replica {replica}, which inserted [{new}] ({insert}, line {line}), shows it {side} [{old}] until its next receipt (line {receipt}), and no other replica does; from {own} "
-               "on it shows it {other_side} [{old}], as the others do. ")
-ANOTHER_PLACE = ("So the insert's change says another place than the one where the replica itself shows it: look at how a local insert is put into the list, and at what its change "
-                 "carries.")
-MOVED_THEN = "Look first at what is done in line {receipt}: at how the replica's own changes that are still on their way are adjusted for what arrives (each for the other as it stood before), and at how it takes them back and applies them anew, if it does"
+SHOWN_ALONE = ("Replica {replica} inserted [{new}] ({insert}, line {line}) {side} [{old}]. No other replica shows them so. After its next receipt (line {receipt}), from {own} on, replica {replica} itself shows [{new}] "
+               "{other_side} [{old}], like the others. ")
+ANOTHER_PLACE = ("So the message for this insert seems to name another place than the one where its author put it: compare where a local insert goes into the list with what its message "
+                 "says.")
+MOVED_THEN = "Look first at what is done in line {receipt}: at " + OWN_ADJUSTED
 ALONE_BY = {"": ANOTHER_PLACE + " Or the insert was moved in line {receipt}, behind a server: then look at how the replica's own changes that are still on their way are adjusted for what arrives.",
-            NEIGHBOURS: ANOTHER_PLACE, TREE: ANOTHER_PLACE, IDENTIFIERS: ANOTHER_PLACE, POSITIONS: MOVED_THEN + "; and then at what the insert's change carries."}
-ONE_IS_WRONG = ("behind a server or a relay, perhaps its answer to the replica's own change. Then one of the two lists is wrong: that of {before}{made}, or the one behind the answer. "
-                "Compare how an arriving change and the replica's own that are still on their way are moved over each other with how it is done for the answer{server}: for which changes, whether for each once, "
-                "and which of two at one position comes first.")
+            NEIGHBOURS: ANOTHER_PLACE, TREE: ANOTHER_PLACE, IDENTIFIERS: ANOTHER_PLACE, POSITIONS: MOVED_THEN + " Then look at what the message for the insert says."}
+ONE_IS_WRONG = ("behind a server or a relay, perhaps its answer to the replica's own change. Then one of the two lists is wrong: that of {before}{made}, or the one after the answer. "
+                "Two pieces of code must adjust in the same way: the one for an arriving change and the replica's own changes that are still on their way, and the one for the answer{server}. Compare which changes they "
+                "adjust, whether each only once, and which of two at one position comes first.")
 TURNED_BY_ITSELF = ("Replica {replica} shows {two} before {one} in {before}, and {one} before {two} in {after}, though it received and changed nothing between. Something that is not "
                     "recorded did that: ")
 MOVED_INSERT = ("If the editor sends positions, the position of {element} was perhaps not adjusted for {changes}, which replica {replica} "
@@ -446,7 +446,7 @@ def turned_then(evidence: Evidence, before: Operation) -> str:
         return BY_ITSELF
     receipts = [receipt for receipt in evidence.recording.receipts[before.replica] if receipt.line < before.line]
     made = f", made when {receipts[-1].seen.name} came in line {receipts[-1].line}" if receipts else ""
-    return ONE_IS_WRONG.format(before=at(before), made=made, server=", and on the server, if it adjusts positions")
+    return ONE_IS_WRONG.format(before=at(before), made=made, server=", on the server too, if it adjusts positions")
 
 
 def settled_by_another(evidence: Evidence, first: Operation, then: Operation) -> list:

@@ -24,7 +24,7 @@ FOR_TWO = {
     "emacs-lisp": "(when (memq (domepeeler-lines recording) '({} {})) (debug))",
 }
 USUAL = "python"  # of a trace of which nothing says who recorded it
-BEGINS, READS = "where your code has the editor apply a change, local or remote", "where your code reads the list"
+BEGINS, READS = "right before the call that makes the editor apply a change, local or remote", "right before the call that reads the list"
 
 
 def stop_of(evidence: Evidence) -> tuple:
@@ -128,9 +128,9 @@ def statement(recording: Recording, entry: Operation | Receipt, language: str) -
     name, words = LANGUAGES[language]
     is_read = isinstance(entry, Operation) and entry.kind in ("read", "view")
     first = first_together(recording, entry)
-    then, asked = f"the recording has {entry.line - 1} lines then", words.format(entry.line - 1)
+    then, asked = f"there the recording has {entry.line - 1} lines", words.format(entry.line - 1)
     if first < entry.line:
-        then += f"; or {first - 1}, if one call wrote lines {first} to {entry.line}"
+        then += f", or {first - 1} if one call wrote lines {first} to {entry.line}"
         asked = FOR_TWO[language].format(first - 1, entry.line - 1)
     return f" In {name}, put this {READS if is_read else BEGINS} ({then}): {asked}"
 

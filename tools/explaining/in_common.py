@@ -17,18 +17,18 @@ OWN_BESIDE, TYPED_ON, BEFORE_OTHERS, BEHIND_OTHERS = "own beside deleted", "type
 AT_FRONT, AT_END, FIRST_GONE, LAST_GONE = "at the front", "at the end", "first deleted", "last deleted"
 UNSEEN = {(kind, other): f"{kind}, {other}" for kind in ("ins", "del") for other in ("ins", "del")}  # by what comes, and what its author had not seen
 IN_WORDS = {
-    TWICE: "a delete came whose element was deleted there already",
-    OWN: "a change came whose author had not seen one of the receiver's own",
-    SEVERAL_OWN: "a change came whose author had not seen several of the receiver's own",
-    ONE_PLACE: "an insert came to a place where an element stood that its author had not seen",
-    BESIDE: "an insert came whose neighbour was deleted there",
-    NAMES_GONE: "a change came that deletes, or stands beside, an element which was deleted there",
-    TOGETHER: "several changes came at once",
-    AFTER_SEVERAL: "a change came that its author made when several messages had come since its own last",
-    UNSEEN["ins", "ins"]: "an insert came whose author had not seen an insert that was there",
-    UNSEEN["ins", "del"]: "an insert came whose author had not seen a delete that was there",
-    UNSEEN["del", "ins"]: "a delete came whose author had not seen an insert that was there",
-    UNSEEN["del", "del"]: "a delete came whose author had not seen a delete that was there",
+    TWICE: "a delete arrived whose element was deleted there already",
+    OWN: "a change arrived whose author had not seen one of the receiver's own changes",
+    SEVERAL_OWN: "a change arrived whose author had not seen several of the receiver's own changes",
+    ONE_PLACE: "an insert arrived at a place where an element stood that its author had not seen",
+    BESIDE: "an insert arrived whose neighbour was deleted there",
+    NAMES_GONE: "a change arrived that deletes, or stands beside, an element which was deleted there",
+    TOGETHER: "several changes arrived at once",
+    AFTER_SEVERAL: "a change arrived whose author had received several messages since its own last change",
+    UNSEEN["ins", "ins"]: "an insert arrived whose author had not seen an insert that was there",
+    UNSEEN["ins", "del"]: "an insert arrived whose author had not seen a delete that was there",
+    UNSEEN["del", "ins"]: "a delete arrived whose author had not seen an insert that was there",
+    UNSEEN["del", "del"]: "a delete arrived whose author had not seen a delete that was there",
     OWN_BESIDE: "a replica inserted where an element had been deleted",
     TYPED_ON: "a replica inserted right behind its own last insert",
     BEFORE_OTHERS: "a replica inserted right before what another one had inserted",
@@ -205,10 +205,10 @@ def standing_out(failing: list, passing: list) -> list:
     for name in IN_WORDS:
         count, others = (sum(name in session.before for session in some) for some in (failing, passing))
         if len(passing) >= FEWEST_PASSING and count >= NEARLY_ALL * len(failing):
-            found.append(Telling(weight(count / len(failing), others, len(passing)), name, count, False, f"in {others} of those that pass"))
+            found.append(Telling(weight(count / len(failing), others, len(passing)), name, count, False, f"also in {others} of those that pass"))
         count, others = sum(name in session.last for session in failing), sum(name in one for one in lists)
         if len(lists) >= FEWEST_LISTS and count >= MANY_LISTS * len(failing):
-            found.append(Telling(weight(count / len(failing), others, len(lists)), name, count, True, f"before {round(100 * others / len(lists))} % of the lists that are right"))
+            found.append(Telling(weight(count / len(failing), others, len(lists)), name, count, True, f"also before {round(100 * others / len(lists))} % of the right lists"))
     least = max(TELLING, -log(BY_CHANCE) / len(failing))
     general = set().union(*GENERAL.values())
     told = []
@@ -239,7 +239,7 @@ def in_common(rows: list) -> list:
     without = unneeded(failing) if lines else []
     lines += [f"  not needed: {', '.join(without)}"] if without else []
     beside = f", beside {counted(passing, right, 'session')} that pass{'' if right[1:] else 'es'}" if passing else ""
-    return [f"What {counted(failing, wrong, 'failure')} have in common{beside}. Look first at what your editor does then; these are counts, and the first line tells most:",
+    return [f"What {counted(failing, wrong, 'failure')} have in common{beside}. Look first at what your editor does in that situation; the most telling one comes first:",
             *lines] if lines else []
 
 

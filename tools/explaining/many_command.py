@@ -26,7 +26,7 @@ from .rows import KINDS, NO_VERDICTS, Request, Row, failed
 from .warnings import SAVED, is_first
 
 NAME = "domepeeler-judge-many"
-ABOUT = ("Judges all traces below some folders, several at a time, and lists them: first the one that fails in the fewest lines. Failures that look alike share a row, and alike counts the others. "
+ABOUT = ("Judges all traces below some folders, several at a time, and lists them: first the one that fails in the fewest lines. Failures that look the same share a row, and `similar` counts the others. "
          "Then it says what failures have in common, beside what passes.")
 STATUSES = ("It ends with status 0 where all are accepted, 1 where all can be read and some are not accepted, and 2 where one can't "
             "be read or is known to be cut (whatever its lines show), or would pass though a call that was to record it was refused, or may be lacking (what a stopped "
@@ -156,7 +156,7 @@ def print_table(rows: list, listed: list, is_weak: bool) -> None:
                ("k", [str(row.k or "-") for row, _ in rows_told])]
     columns += [("weak", [HOLDS[(row.report or {}).get("weak")] for row, _ in rows_told])] if is_weak else []
     columns += [("fails at", [str(row.fails_at or "-") for row, _ in rows_told]), ("lines", [str(row.lines) for row, _ in rows_told]), ("seconds", [f"{row.seconds:.3f}" for row, _ in rows_told])]
-    for head, told in (("alike", [more for _, more in rows_told]), ("warnings", [len(row.warnings or []) for row, _ in rows_told])):
+    for head, told in (("similar", [more for _, more in rows_told]), ("warnings", [len(row.warnings or []) for row, _ in rows_told])):
         columns += [(head, list(map(str, told)))] if any(told) else []
     if any(row.notes for row, _ in rows_told):
         columns.append(("noted", ["; ".join(map(shown, row.notes or ["-"])) for row, _ in rows_told]))

@@ -18,7 +18,7 @@ from .telling import FIRST_STEPS, at, counted, did, joined, listed
 CODE, LOG, NOTED = "In your code", "In your log", "Your notes"  # titles: places of code or of a log; the user's words
 HIDDEN = "What this verdict may hide"  # the title of the section of warnings, the first one
 WHERE = "Where to look"  # that of the likely causes
-REFUSED_FIRST = "Look first at the call that was refused, as told above: what it says is not in the trace."
+REFUSED_FIRST = "Look first at the call that was refused (see above): what it was to record is not in the trace."
 MOST_NAMES = 24  # of a list that is shown whole
 AROUND = "a circle, which no order allows"
 LINE = re.compile(r"\bline (\d+)(?=[,):]| of the trace,| \(\d+ recv )")  # of the trace, in words; and not two names, `line` and a number
@@ -48,8 +48,8 @@ def explanation(evidence: Evidence, told: Evidence, language: str = debuggers.US
     whole = whole_trace(evidence, told)
     is_alike = verdict_of(evidence.report) == verdict_of(told.report)  # then more responses would tell nothing new
     if whole:
-        more = " too, by other responses" if is_alike else ", told at the end"
-        headline += f" This is what went wrong first, within the first {told.last_line} lines: begin with it. The verdict on the whole trace is {verdict_of(evidence.report)}{more}."
+        more = " as well, because of other responses" if is_alike else ": see the end"
+        headline += f" This fault comes first, in lines 1 to {told.last_line}: start here. The whole trace is {verdict_of(evidence.report)}{more}."
     if weak and is_weak_alone(evidence.report):
         headline = f"{WEAK_ALONE}: this passes, since only the weak list specification is asked for. Why the strong one fails: {headline}"
     return Explanation(headline, [*when_it_went_wrong(evidence, told, weak), *without_receipts(told), *sections, *where,
@@ -62,7 +62,7 @@ def of_whole(evidence: Evidence, told: Evidence) -> list:
     contradiction shows more."""
     if not evidence.report.get("k") == 2 < told.report.get("k", 0):
         return []
-    return [Cause(cause.name, otherwise("For the verdict on the whole trace (told at the end)", cause.told)) for cause in causes_of(evidence)
+    return [Cause(cause.name, otherwise("For the whole trace (see the end)", cause.told)) for cause in causes_of(evidence)
             if cause.name != "beside deleted"]  # which speaks of lines above
 
 
@@ -75,7 +75,7 @@ def specifications(report: dict, is_of_whole: bool) -> Section:
         told = f"strong and weak {'hold' if report['strong'] else 'fail'}"
     else:
         told = f"strong {holds[report['strong']]}, weak {holds[report['weak']]}"
-    return Section("The list specifications", ["by the whole trace, " * is_of_whole + told])
+    return Section("The list specifications", ["for the whole trace: " * is_of_whole + told])
 
 
 def verdict_of(report: dict) -> str:
@@ -94,8 +94,8 @@ def when_it_went_wrong(evidence: Evidence, told: Evidence, weak: bool) -> list:
     entry = evidence.recording.entries[last - evidence.recording.entries[0].line]
     verdict = verdict_of(told.report)
     is_alone = weak and is_weak_alone(evidence.report)
-    before = "weak holds" if weak and not is_alone else "the session is accepted"
-    lines = [f"{did(entry, is_first=True)}. Up to line {last - 1} {before}; line {last} leads to {verdict}"]
+    before = "the weak specification holds" if weak and not is_alone else "the session is accepted"
+    lines = [f"{did(entry, is_first=True)}. Up to line {last - 1} {before}; line {last} makes it {verdict}"]
     if told.report["verdict"] == "refused":
         still = "agrees with all responses up to then" if weak and not is_alone else "fits"
         is_refused = evidence.report["verdict"] == "refused"  # else what is shown in the end is wrong by itself
@@ -391,8 +391,7 @@ def overtaken(evidence: Evidence, change: Operation, operation: Operation) -> li
     if change.replica == brought.seen.replica:
         return [f"{change.name} has no receipt of its own at replica {replica}, though all other changes of replica {change.replica} have one. {change.name} "
                 f"was lost, or {brought.seen.name} overtook it in line {brought.line}"]
-    return [f"{change.name} has no receipt of its own at replica {replica}, and counts as arrived with {brought.seen.name}, in line {brought.line}, since the author of {brought.seen.name} had {change.name}. If each "
-            f"operation travels by itself, {brought.seen.name} arrived without {change.name}: that is not causal order"]
+    return [f"{change.name} has no receipt of its own at replica {replica}. If each operation travels by itself, {brought.seen.name} arrived without {change.name} (line {brought.line}): that is not causal order"]
 
 
 def neighbours(evidence: Evidence, insert: Operation) -> list:
