@@ -389,14 +389,14 @@ IN_COMMON = {
         "  before each: a change arrived whose author had not seen one of the receiver's own changes (also in 2 of those that pass)"]),
     # Of 48 lists that are right 12 come so: one in each failing session, two in each of the four that pass.
     "at one place": ([(4, f"{TIED} b a")], [(4, f"{TIED} a b"), (4, IN_TURN)], [
-        "  right before each: an insert arrived at a place where an element stood that its author had not seen (also before 25 % of the right lists)",
-        "  right before each: a change arrived whose author had not seen one of the receiver's own changes (also before 25 % of the right lists)",
+        "  right before each: an insert arrived at a place where an element stood that its author had not seen (also before 25 % of the lists that are right)",
+        "  right before each: a change arrived whose author had not seen one of the receiver's own changes (also before 25 % of the lists that are right)",
         "  not needed: 4 fail without any delete"]),
     "none that pass, and few lists": ([(3, BEGUN_ONCE)], [], []),
     # Of 24 lists that are right 8 come so.
     "none that pass": ([(8, f"{TIED} b a")], [], [
-        "  right before each: an insert arrived at a place where an element stood that its author had not seen (also before 33 % of the right lists)",
-        "  right before each: a change arrived whose author had not seen one of the receiver's own changes (also before 33 % of the right lists)",
+        "  right before each: an insert arrived at a place where an element stood that its author had not seen (also before 33 % of the lists that are right)",
+        "  right before each: a change arrived whose author had not seen one of the receiver's own changes (also before 33 % of the lists that are right)",
         "  not needed: 8 fail without any delete"]),
     "too few": ([(2, BEGUN_TWICE)], [(10, RIGHT_ONCE)], []),
     "nothing stands out": ([(3, BEGUN_TWICE)], [(9, RIGHT_TWICE)], []),
@@ -405,7 +405,7 @@ IN_COMMON = {
 OF_PLANTED = {
     "tombstone": "an insert arrived whose neighbour was deleted there", "tie": "an insert arrived at a place where an element stood that its author had not seen",
     "clock": "a replica inserted right behind what another one had inserted", "overtaking": "several changes arrived at once",
-    "mapping": "an insert arrived whose author had not seen a delete that was there", "unmoved": "a delete arrived whose author had not seen an insert that was there",
+    "mapping": "an insert arrived whose author had not seen a delete that the receiver had", "unmoved": "a delete arrived whose author had not seen an insert that the receiver had",
     "behind": "an insert arrived at a place where an element stood that its author had not seen", "twice": "a delete arrived whose element was deleted there already",
     "none": "", "none_behind_server": "",
 }
@@ -419,7 +419,7 @@ def what_is_common(tally: Tally, program: str, folder: str) -> None:
                       for of in range(count)})
         counts = [sum(count for count, _ in sessions) for sessions in (wrong, right)]
         beside = f", beside {counts[1]} sessions that pass" if right else ""
-        head = f"What {counts[0]} failures have in common{beside}. Look first at what your editor does in that situation; the most telling one comes first:"
+        head = f"What {counts[0]} failures have in common{beside}. Look at what your editor does in these situations, the most telling first:"
         for words in [], ["--failing"]:
             done = subprocess.run([TOOL, "--program", program, *words, place], capture_output=True, text=True)
             said = done.stdout.partition(f"\n{sum(counts)} traces: ")[2].splitlines()[1:]
@@ -532,12 +532,12 @@ def situations(tally: Tally, program: str, folder: str) -> None:
     wrong, other = row("twice.trace", fails_at=10), row("once.trace", fails_at=8)
     right_ones = [row("right.trace")._replace(verdict="accepted", unequal=is_unequal) for is_unequal in (None, True)]
     for name, found, head in (
-            ("also of those that end unequal", in_common.in_common([wrong] * 5 + right_ones * 4), "What 5 failures have in common, beside 8 sessions that pass."),
+            ("also of those that end unequal", in_common.in_common([wrong] * 5 + right_ones * 4), "What 5 failures have in common, compared with 8 sessions that pass."),
             ("not of empty ones", in_common.in_common([wrong] * 5 + [row("empty.trace")._replace(verdict="accepted")] * 9), ""),
             ("not of what is unread", in_common.in_common([wrong._replace(verdict="unread", fails_at=None)] * 5 + right_ones * 4), ""),
-            ("some of many", in_common.in_common([wrong] * 250 + right_ones[:1] * 101), "What 84 of 250 failures have in common, beside 51 of 101 sessions that pass."),
+            ("some of many", in_common.in_common([wrong] * 250 + right_ones[:1] * 101), "What 84 of 250 failures have in common, compared with 51 of 101 sessions that pass."),
             ("of many not the first alone", in_common.in_common([wrong] * 125 + [other] * 125 + right_ones[:1] * 50), ""),
-            ("not of big ones", in_common.in_common([row("big.trace", fails_at=8)] * 3 + [wrong] * 57 + right_ones[:1] * 50), "What 58 of 60 failures have in common, beside 50 sessions that pass.")):
+            ("not of big ones", in_common.in_common([row("big.trace", fails_at=8)] * 3 + [wrong] * 57 + right_ones[:1] * 50), "What 58 of 60 failures have in common, compared with 50 sessions that pass.")):
         tally.check(f"in common: {name}", (found[0] if found else "").startswith(head) and bool(found) == bool(head), found)
     found = in_common.in_common([wrong] * 39 + [other] + right_ones[:1] * 9)
     tally.check("in common: of most", any(line.startswith("  before 39 of them: a delete came whose element") for line in found), found)
@@ -839,7 +839,7 @@ def known_as_cut(tally: Tally, program: str, folder: str) -> None:
     Path(folder, "nothing.trace").write_text("trace 1\nreplicas 1\n")
     lines = judge(program, [folder]).err.decode().splitlines()
     unknown = [f"{folder}/{name}.trace.lines holds no line count, so nothing says whether the trace is whole" for name in ("none", "word")]
-    nothing = "nothing was recorded: the trace has no entry, so the verdict says nothing of an editor"
+    nothing = "nothing was recorded: the trace has no entry, so the verdict says nothing about your editor"
     tally.check("cut: always said that nobody knows, or nothing was recorded", lines[2:5] == [
         f"domepeeler-judge-many: {folder}/{name}.trace: warning: {told_of}" for name, told_of in zip(("none", "nothing", "word"), (unknown[0], nothing, unknown[1]))]
                 and "more warning" in lines[-1], lines)

@@ -896,7 +896,7 @@ ALONE = "weak holds, strong doesn't: this passes"
 UNSURE = ["in the end replicas 0 and 1 show different lists",
           "replica 1 never hears of replica 0: no receipt brings it an insert or a delete from there, so nothing shows how it applies "
           "these. At the end of a session let everyone receive everything, and then read the list"]
-NOTHING = "nothing was recorded: the trace has no entry, so the verdict says nothing of an editor"
+NOTHING = "nothing was recorded: the trace has no entry, so the verdict says nothing about your editor"
 
 # Programs that give no report, and what is said of each.
 BROKEN = [("cat > /dev/null; kill -9 $$", "{} was ended by signal 9"), ("cat > /dev/null", "{} ended with status 0 and printed no report"),

@@ -1569,7 +1569,7 @@ def check_many_lines(tally: Tally, recorder: Recorder) -> None:
     tally.check(f"{recorder.language}: how many lines is answered at once", took < MOST_PROCESSOR, took)
 
 
-NOTHING = "nothing was recorded: the trace has no entry, so the verdict says nothing of an editor"
+NOTHING = "nothing was recorded: the trace has no entry, so the verdict says nothing about your editor"
 NEVER_HEARS = ("replica {} never hears of {}: no receipt brings it an insert or a delete from there, so nothing shows how it applies these. "
                "At the end of a session let everyone receive everything, and then read the list")
 LOST_ONE = "Unless it was still on its way, it was lost or is held back"

@@ -19,17 +19,16 @@ NEVER_SENT = ("Look first at whether replica {author} has sent {changes} at all:
               "wrong place.")
 OTHERS_HAVE = "all other changes of replica {author} have one"
 ELSEWHERE_ONE = {True: "at another replica it has one", False: "at other replicas they have some"}
-PUT_AT_ONCE = {True: " {others} was inserted at the same place as {element}, and neither author had the other's insert: look also at which of the two comes first.",
-               False: " {others} were inserted at the same place as {element}. Their authors did not have {element}, and its author did not have them: look also at "
-                      "which of them comes first."}
-OWN_ADJUSTED = ("how the replica's own changes that are still on their way are adjusted for what arrives, and what arrives for them (each for the other's form from before). If the editor takes "
-                "its own changes back and applies them again, look at how.")
-EMPTIED = ("Before that, in line {line}, replica {replica} received {change}, which deletes {element}, though it had deleted that itself, by {other}. Then neither delete has anything left to delete at the other's side, "
-           "but both sides must still count it as received (message numbers, acknowledgements). Else later changes are adjusted once too often, or too seldom.")
-NONE_ON_WAY = "No change of its own was on its way then: so look at what the server made of {came}, if it adjusts positions, and at what was sent before it."
-ONE_ON_WAY = "{who} had one change of its own on its way then, {own}. Each of the two must be adjusted for the other."
-SEVERAL_ON_WAY = ("{who} had {count} changes of its own on their way then: {own}. What comes must be adjusted for the first of these, the result for the second, and so on; "
-                  "and each of these for the incoming change in the form that it has at that step. That holds for changes in a buffer too.")
+PUT_AT_ONCE = {True: " {others} was inserted at the same place as {element} concurrently: look also at which of the two comes first.",
+               False: " {others} were inserted at the same place as {element} concurrently: look also at whether {element} comes before or behind each of them."}
+OWN_ADJUSTED = ("how the replica's own changes that are still on their way are adjusted for an arriving change, and that for them (each for the other as it was before). If the editor takes its own "
+                "changes back and applies them again, look at how.")
+EMPTIED = ("Before that, in line {line}, replica {replica} received {change}, which deletes {element}, though it had deleted {element} itself, by {other}. At each side the other side's delete then "
+           "has nothing left to delete, but must still be counted as received (message numbers, acknowledgements). Else later changes are adjusted once too often, or too seldom.")
+NONE_ON_WAY = "{who} had no change of its own on its way then: so look at what the server (if it adjusts positions) made of {came}, and at what was sent before {came}."
+ONE_ON_WAY = "{who} had one change of its own on its way then, {own}: this and {came} must each be adjusted for the other."
+SEVERAL_ON_WAY = ("{who} had {count} changes of its own on their way then: {own}. The incoming change must be adjusted for the first of these, the result for the second, and so on. At each step "
+                  "that own change must be adjusted too, for the incoming change as it was before the step. The same holds for changes in a buffer.")
 DELETED_TWICE = ("Before that, {element} was deleted at replica {replica} more than once: by {other}, and by {change}, which came in line {line}. If the editor counts how many elements it shows (in blocks, or "
                  "below the nodes of a tree), it must subtract each only once. Else all later local positions are counted wrongly.")
 BY_ITSELF = "perhaps deleted elements are thrown away there, changes that were held back are applied, or a copy of the list that is shown is made anew."

@@ -24,41 +24,39 @@ NO_PLACE = (" Perhaps {insert} finds no place there for {element}: its neighbour
 NOT_APPLIED = ("It looks as if {changes} {were} not applied at replica {replica}: lost, or held back, or `received` is called before the "
                "change is applied.{later}{elsewhere}{other}")
 KEPT_BACK = (" Between {change} and its first arrival elsewhere (line {first}) replica {author} received {came}: so stop before line {line} too, and look at ")
-LACKED_ELSEWHERE = " Replica {other} lacks {missing} too, in {operation}: so look first at what is sent{server}, and not at replica {replica}."
+LACKED_ELSEWHERE = " Replica {other} lacks {missing} too, in {operation}: so don't begin at replica {replica}. Look first at what is sent{server}."
 LACKED_AT_SERVER = (" Replica {other} lacks {missing} too, in {operation}: so look first at what is sent, and then at replica {replica}, which changes nothing itself. If that is the server, look at how it "
-                    "adjusts what arrives for all that its author had not seen.")
+                    "adjusts a change for all that the author of the change had not seen.")
 LATER = {True: " It is shown from {operation} on, behind what came in line {line}: perhaps it was held back until then, or its receipt was written too early.",
-         False: " It is shown from {operation} on, though nothing else came between: so it had come, and what was shown is out of date. Is each list that is kept for showing, such as a cache, made anew "
-                "after every change, others' too?"}
+         False: " It is shown from {operation} on, though nothing else came between: so it had come, and what was shown is out of date. Is each list that is kept for showing, such as a cache, made "
+                "anew after every change, remote ones too?"}
 ELSEWHERE = {True: " Replica {other} has applied {change}, as {operation} shows: so look at replica {replica}.",
              False: " Replica {other} has not applied {change} either, as {operation} shows: so look first at what is sent{server}."}
 OTHER_DELETE = (" Or it deleted another element, one that was already deleted there: look at how a replica that applies a delete finds the element (is the "
                 "whole id compared?).")
-CAME_BEFORE = (" If it came before the insert of {elements} did, look at what keeps a delete whose element is not there yet: a second one must not take the place of the first, and each must be tried again "
-               "when its element comes.")
-WAITED_IN_PART = ("{first} {was} done at replica {replica}, but not {then}, which {were} made directly behind. If one change of your editor deletes all of these, it looks as if it was "
-                  "applied in part: look at what a replica does where one of several elements is gone already, or has not come yet; and, if the change waited, at whether it is asked again "
-                  "what is lacking when one thing comes.")
+CAME_BEFORE = (" If it arrived before the insert of {elements}, look at where deletes wait whose element has not arrived yet: a second one must not overwrite the first, and each must be tried again when its element arrives.")
+WAITED_IN_PART = ("{first} {was} applied at replica {replica}, but not {then}, which {were} made right after that. If your editor sends all of these deletes as one change, it looks as if that was "
+                  "applied in part: look at what a replica does where one of several elements is gone already, or has not come yet; and, if the change had to wait, at whether the editor checks "
+                  "again what is still lacking when one missing element arrives.")
 IN_PART = ("{first} and {then} were made one after the other, and came to replica {replica} together; there {element} was deleted already, by {gone}, and {surplus} "
-           "{is_} still shown. If one change of your editor deletes both, it looks as if it was applied in part: look at what a replica does where one of "
+           "{is_} still shown. If your editor sends both deletes as one change, it looks as if that was applied in part: look at what a replica does where one of "
            "several elements is gone already; it must go on with the others.")
 BROUGHT = ("No receipt at replica {replica} names {changes}: {they} as arrived with {brought}, in line {line}. If you record a receipt for each change, "
            "{names} {were} lost, or {brought} overtook {them}.")
 NO_RECEIPT = ("It looks as if {changes} {were} applied at replica {replica} without a receipt: the call of `received` is missing, comes "
               "too late, or names another operation.")
 WRONG_DELETE = ("It looks as if {delete}, applied at replica {replica}, deleted {missing} instead of {surplus}: look at how a replica that applies a "
-                "delete finds the element, and at whether the recorder writes the name of the element that was deleted.")
-WRONG_LOCAL_DELETE = ("It looks as if {delete} deleted {missing} instead of {surplus}: look at how a local delete finds the element, and at whether the recorder writes the name "
-                      "of the element that was deleted.")
-RIVALS = (" {missing} and {element} were inserted into one gap without knowing of each other: look also at which of them comes first, by a rule that never ties (such as by the replicas' numbers, not by letters) and is "
-          "the same on both sides; else the delete hits the other one.")
-WRONG_POSITION = ("It looks as if {delete}, applied at replica {replica}, deleted {missing} instead of {surplus}: look at how its position is adjusted there, also for changes "
-                  "of the replica's own that its author had not seen; and at whether the recorder writes the name of the element that was deleted.")
+                "delete finds the element, and at whether the recorder writes the name of the element that was really deleted.")
+WRONG_LOCAL_DELETE = ("It looks as if {delete} deleted {missing} instead of {surplus}: look at how a local delete finds the element, and at whether the recorder writes the name of the element that was really deleted.")
+RIVALS = (" {missing} and {element} were inserted into one gap without knowing of each other. Which of them comes first must be decided by a rule that never ties (such as the replicas' numbers, "
+          "not letters) and is the same on both sides; else the delete hits the other one.")
+WRONG_POSITION = ("It looks as if {delete}, applied at replica {replica}, deleted {missing} instead of {surplus}: look at how the position of {delete} is adjusted there, also for the replica's own "
+                  "changes that the author of {delete} had not seen; and at whether the recorder writes the name of the element that was really deleted.")
 TIED = ("{one} and {two} were inserted at one place without knowing of each other, and are shown in two orders: {one} before {two} in {before}, {two} before {one} in {after}. "
-        "Look first at the order of concurrent inserts, by a rule that never ties (such as by the replicas' numbers, not by letters): where it differs, a later change by position hits another element.")
+        "Look first at the order of concurrent inserts: it must be decided by a rule that never ties (such as the replicas' numbers, not letters). Where the order differs, a later change by position hits another element.")
 MISNAMED = ("{deletes} delete{s} {named}; but {wrong}, while {missing}. Look at which ids a local delete puts into the change that it sends{several}.")
 NOT_SHOWN = "{element} does not stand in {before}{unknown}"
-SEVERAL_IDS = ": of several elements each has its own, which need not follow from the one before"
+SEVERAL_IDS = ": where it deletes several, each element has an id of its own, and these need not be consecutive"
 MOVED_DELETE = ("If the editor sends positions, the position of {delete} was perhaps not adjusted for {changes}, which the author of {delete} had "
                 "not seen{back}.{tie}")
 MOVED_BEFORE = "; or an insert that replica {replica} received before was not adjusted for a delete that the insert's author had not seen"
@@ -66,17 +64,17 @@ UNKNOWN = ("No line inserts {names}. Perhaps the insert was not recorded, or und
            "what was there, and the others receive it.")
 REPLACED = ("Replica {replica} showed {missing} in {before}; since then it only received {came}, and nothing that came deletes {missing}. Look at what {came_first} does there: "
             "does an arriving state replace the replica's own, or does the editor take back its own changes when others' arrive?")
-VANISHED = "Replica {replica}'s answer in {before} is right, and it has received nothing since. Look at what replica {replica} itself does between the two{unrecorded}"
-TOO_MUCH = ("It looks as if {deletes}{applied} deleted {missing} along with {theirs}: {missing} stood there in {before}, and no delete of {it} has come there. Look at where "
-            "the replica begins to delete there, and at how many elements it deletes.")
+VANISHED = "Replica {replica}'s answer in {before} is right, and it has received nothing since. Look at what replica {replica} does between that and this response{unrecorded}"
+TOO_MUCH = ("It looks as if {deletes}{applied} deleted {missing} along with {theirs}: {missing} stood in {before}, and no delete of {it} has arrived since. Look at where the delete begins, and at "
+            "how many elements it deletes.")
 NOT_SEEN = " The author of {changes} had not seen {missing}: what deletes a range, by elements or positions, must leave out what its author had not seen."
 SECOND_DELETE = {
     False: "It looks as if {again}{applied} deleted {missing} instead of {element}: look at how a replica that applies a delete finds the element. {element} was already deleted "
            "there, by {first}, so look also at what the editor does with a delete whose element is gone.",
     True: "It looks as if {again}{applied} deleted {missing}. Its own element, {element}, was already deleted there, by {first}: such a delete must change nothing. Look at what the "
-          "editor does with it; and at how its position is adjusted there, also for changes of the replica's own that its author had not seen.",
+          "editor does with it; and at how the position of {again} is adjusted there, also for the replica's own changes that the author of {again} had not seen.",
 }
-CAUSAL = ("The engine may be right: operations must arrive in causal order. Apply an operation only after everything that its author had seen, or send all of that together with it. If the editor itself holds operations "
+CAUSAL = ("Your editor may be right, but it needs operations in causal order: apply an operation only after everything that its author had seen, or send all of that along with it. If the editor itself holds operations "
           f"back, write the receipt of each only when it is applied. {GUIDE} shows what to record in each case.")
 OVERTAKEN = "Look at the order in which operations arrive: {name} was overtaken, as told above. " + CAUSAL
 LOST_OR_OVERTAKEN = ("Look first at whether {name} was lost on its way to replica {replica}: no receipt there names it. If it was not lost but overtaken, "
@@ -86,23 +84,23 @@ LOST_NEIGHBOUR = ("If inserts find their place by a neighbour, look at inserts b
                   "holds it back for ever.")
 OWN_BACK_AGAIN = "When {came} came{line}, {back} came back, which replica {replica} had deleted itself by {delete}{lost}. Look at "
 BACK_AGAIN = "When {came} came{line}, {back} came back, which {was} deleted at replica {replica} before, by {delete}, and not shown in {before}{lost}. Look at "
-OWN_ON_WAY = ("When {came} came{line}, replica {replica} had changes of its own on their way, which its author had not seen: {own}.{elsewhere} So {missing} perhaps came well, and one of these "
-              "deletes took {it} along{twice}. Look at ")
+OWN_ON_WAY = ("When {came} came{line}, replica {replica} had changes of its own on their way, which the author of {came} had not seen: {own}.{elsewhere} So perhaps {missing} {was} inserted "
+              "rightly, and then removed by {delete}{twice}. Look at ")
 SHOWN_ELSEWHERE = " Replica {other} received {same} too, and shows {missing} in {operation}."
 TWICE = ", perhaps that of {element}, which {other} deletes too"
-OWN_GONE = ("Replica {replica} showed its own changes in {before}, and shows them no more: {own}.{came}{unknown} Look at what takes the place of its list, such as a state from elsewhere that was "
-            "made without them, or at how they are taken back and applied anew; and at what keeps own changes until they are confirmed, and when it lets go of them.")
+OWN_GONE = ("Replica {replica} showed its own changes in {before}, and shows them no more: {own}.{came}{unknown} Was its list replaced by a state from elsewhere that lacks them, or were they taken "
+            "back and not applied again? Look also at the store of unconfirmed own changes, and at when they are removed from it.")
 CAME_SINCE = " Since then it received {came}."
 OWN_UNKNOWN = " No other replica shows that it has them."
 SHOWN_AGAIN = ("what applies that: is an element that is marked as deleted shown again, made anew by an insert that arrives a second time, or brought back by a state that "
                "is older than the delete?")
 SPLIT = ("what {new} there to the elements beside it: is a run (block) of them split, or made anew, without the mark that they are deleted? Else look for a state that is older than "
          "the delete and takes the place of the replica's own.")
-OWN_LOST = ", and {missing} {is_} not there: perhaps that delete now hits {it}"
+OWN_LOST = ", and {missing} {is_} not there: perhaps that delete now hits {it} instead"
 HEALED = "Later replica {other} reads another list in {after} than in {before}, though it received and changed nothing between. Something that is not recorded did that: "
-BY_SERVER = ("behind a server, perhaps its answer to the replica's own change. Then server and replica make different things of one change: look at which changes each of them "
-             "adjusts it for. Client and server must adjust in the same way, and each change only once.")
-UNRECORDED = {True: "; behind a server, at what its answer to the replica's own change does there.",
+BY_SERVER = ("with a server, perhaps its acknowledgement of the replica's own change. Then server and replica adjust one change differently: look at which changes each of them adjusts it for. "
+             "Client and server must adjust in the same way, and each change only once.")
+UNRECORDED = {True: "; if there is a server, at what its acknowledgement of the replica's own change does there.",
               False: ": are deleted elements thrown away there, changes that were held back applied, or a copy of the list made anew?"}
 
 
@@ -282,7 +280,7 @@ def elsewhere(evidence: Evidence, change: Operation) -> str:
                 told.setdefault((change.element in one.response) == (change.kind == "ins"), one)
     is_applied = False not in told
     return ELSEWHERE[is_applied].format(other=told[is_applied].replica, change=change.name, operation=at(told[is_applied]), replica=replica,
-                                        server="" if evidence.kind not in ("", POSITIONS) else ", and what the server makes of it, if it adjusts positions") + (
+                                        server="" if evidence.kind not in ("", POSITIONS) else ", and at what the server (if it adjusts positions) makes of that") + (
                                             kept_back(evidence, change) if not is_applied else "") if told else ""
 
 
@@ -361,7 +359,7 @@ def lacked_elsewhere(evidence: Evidence, delete: Operation, missing: list) -> st
             if is_third and all(any(map(one.has_seen, recording.inserts.get(name, []))) and not any(map(one.has_seen, recording.deletes.get(name, []))) for name in missing):
                 words = LACKED_AT_SERVER if may_be_server(evidence, replica) else LACKED_ELSEWHERE
                 return words.format(other=one.replica, missing=listed(missing, MOST_TOLD), operation=at(one), replica=replica,
-                                    server="" if evidence.kind not in ("", POSITIONS) else ", and what the server makes of it, if it adjusts positions")
+                                    server="" if evidence.kind not in ("", POSITIONS) else ", and at what the server (if it adjusts positions) makes of that")
     return ""
 
 
@@ -428,7 +426,7 @@ def own_back(evidence: Evidence) -> list:
     is_one = not evidence.missing[1:]
     arrival = evidence.recording.arrival(came[0], operation.replica) if not came[1:] else None
     line = f" in line {arrival.line}" if arrival is not None else ""
-    lost = OWN_LOST.format(missing=listed(evidence.missing, MOST_TOLD), is_="is" if is_one else "are", it="it" if is_one else "one of them") if evidence.missing else ""
+    lost = OWN_LOST.format(missing=listed(evidence.missing, MOST_TOLD), is_="is" if is_one else "are", it=evidence.missing[0] if is_one else "one of these") if evidence.missing else ""
     words = OWN_BACK_AGAIN if is_own else BACK_AGAIN
     return [Cause("own back", words.format(came=named(came), back=listed(evidence.surplus, MOST_TOLD), replica=operation.replica, was="were" if evidence.surplus[1:] else "was", before=at(before),
                                            delete=listed(list(dict.fromkeys(map(at, deletes))), MOST_TOLD), lost=lost, line=line) + look_of_back(evidence, came, is_own))]
@@ -468,7 +466,7 @@ def own_on_way(evidence: Evidence) -> list:
     is_one = not evidence.missing[1:]
     return [Cause("own on way", OWN_ON_WAY.format(
         came=came[-1].name, line=f" in line {arrival.line}", replica=operation.replica, own=named(own), elsewhere=elsewhere, missing=listed(evidence.missing, MOST_TOLD),
-        it="it" if is_one else "them", twice=TWICE.format(element=both[0].element, other=at(both[1])) if both else "") + OWN_ADJUSTED)]
+        was="was" if is_one else "were", delete="one of these deletes" if own[1:] else "this delete", twice=TWICE.format(element=both[0].element, other=at(both[1])) if both else "") + OWN_ADJUSTED)]
 
 
 def last_whole(evidence: Evidence, operation: Operation) -> Operation | None:

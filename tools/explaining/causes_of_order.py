@@ -10,35 +10,35 @@ from .positions import are_put_at_once, elements_before, list_of, met_inserts, n
 from .recordings import Operation, place_asked
 from .telling import at, counted, joined, listed
 
-NUMBERS_OF_INSERTS = (" Often the clock that decides between inserts does not advance when changes arrive, or not past the last element of a paste; or the neighbour is not found; "
-                      "or elements are stored in runs (blocks of several), and a run is split at a wrong place{deleted}.")
+NUMBERS_OF_INSERTS = (" Often the clock that decides between inserts does not advance when changes arrive, or does not advance past the last element of a paste; or the neighbour is not found; or "
+                      "elements are stored in runs (blocks of several), and a run is split at a wrong offset{deleted}.")
 OF_INSERTS = {
     "": NUMBERS_OF_INSERTS, NEIGHBOURS: NUMBERS_OF_INSERTS, POSITIONS: " Client and server must adjust in the same way, and each change only once.", IDENTIFIERS: "",
-    TREE: " Often the clock that decides between children does not advance when changes arrive, or not past the last element of a paste; or the parent is not the one that the "
+    TREE: " Often the clock that decides between children does not advance when changes arrive, or does not advance past the last element of a paste; or the parent is not the one that the "
           "author meant{deleted}.",
 }
-DELETED_TOO = {"": ": deleted elements count too", NEIGHBOURS: ": deleted elements count too", TREE: ", as where the element beside it is deleted", IDENTIFIERS: "", POSITIONS: ""}
-IDENTIFIERS_OF = ("If the list is sorted by position identifiers, print those of {names} at line {line}. If they do not rise in this order, look at how the "
-               "one of {element} was made; if they do, at how identifiers are compared (numbers must not be compared as text).")
-SORTED = ("If the list is sorted by position identifiers, look at those of {names}: are {two} equal, does one differ between "
-          "replicas, are numbers compared as text, or was one not made between its neighbours'?{circle}")
+DELETED_TOO = {"": " (deleted elements count in it too)", NEIGHBOURS: " (deleted elements count in it too)", TREE: ", as where the element beside it is deleted", IDENTIFIERS: "", POSITIONS: ""}
+IDENTIFIERS_OF = ("If the list is sorted by position identifiers, print those of {names} at line {line}. If they do not rise in this order, look at how the identifier of {element} was made; if "
+                  "they do, at how identifiers are compared (numbers must not be compared as text).")
+SORTED = ("If the list is sorted by position identifiers, look at those of {names}: are {two} equal, does one differ between replicas, are numbers compared as text, or does one not lie between "
+          "those of its neighbours?{circle}")
 NO_ORDER = " Or does the comparison go in a circle, as when numbers and authors are compared by turns?"
 REORDERED = ("Replica {replica} itself changed the order of elements that it had shown: {one} before {two} in {before}, {two} before {one} in {after}. Between the two "
              "it {did}. Look at {look}")
-DECIDES = ("what decides which of {two} and {one} comes first: once both are inserted, it must never change, whatever is inserted, deleted "
+DECIDES = ("what decides which of {two} and {one} comes first: once both are inserted, their order must never change, whatever is inserted, deleted "
            "or received later.")
 MAPPING = ("Look at how the position that a user sees is mapped to a place in the editor's own list{deleted}; and at whether the "
            "recorder writes the position that was asked for.")
 ADJUSTS = "how what comes and the replica's own changes that are still on their way are adjusted for each other there."
 BESIDE_GONE = ("{passed} was put {side} {gone} ({insert}), which is deleted at replica {replica} by now: so {element} belongs beside a deleted element. Look at how an insert finds its "
-               "place there; in a tree of elements, at how the children of a deleted one are shown: all of its left side come before all of its right side.")
+               "place there; in a tree of elements, at how the children of a deleted one are shown: all its left children must come before all its right ones.")
 NUMBERS = ("If the editor decides by numbers (a clock, ids) which of two inserts at one place comes first, look at theirs: {element} stands behind "
-           "{passed}, which replica {replica} had already. So the number of {element} must be greater than {theirs}; perhaps it is not. Usual causes: "
+           "{passed}, which replica {replica} had already. To stand before, {element} needs a number greater than {theirs}; perhaps it has none. Usual causes: "
            "{causes}ids are compared as text, so 10 comes before 9.")
 NUMBERS_TREE = ("Look at where a new child is put: {element} stands behind {passed}, which replica {replica} had already. Perhaps its parent is not the one that was meant; or the place beside a "
                 "sibling, with all that hangs on that, is not found; or siblings stand in the order of numbers, and the one of {element} is not greater than {theirs} (usual causes: "
                 "{causes}ids are compared as text).")
-KEPT_PLACE = ("{came} came to replica {replica} in line {line}, beside {own}, which the replica had inserted itself before by {insert}. Does the editor keep a place, or bounds, from its last "
+KEPT_PLACE = ("{came} came to replica {replica} in line {line}, beside {own}, which the replica had inserted itself before by {insert}. Does the editor keep a position, or a range, from its last "
               "insert? Then what arrives there must update these.")
 STALE = ("[{element}] stands where position {at} was in {before}: since then replica {replica} received {came}. Does the editor keep something from before that, such as a place, an offset, an index "
          "or a copy of the list? Then every kind of change that arrives must update it.")
@@ -51,15 +51,15 @@ OWN_PLACE = ("When replica {replica} inserted [{element}] (line {line}), {gone} 
              "them: a local insert must find its place by the same search as an incoming one.")
 ARRIVED_BESIDE = "{element} came to replica {replica} in line {line}, where its {neighbours} {gone} had been deleted"
 HIDDEN_BESIDE = "{element} was put beside {gone}, which {were} deleted before {operation}"
-SEVERAL_DELETED = ("Look at positions beside deleted elements: any {fewer} of {named} fit together, all {k} don't; perhaps an insert lost its place "
+SEVERAL_DELETED = ("Look at positions beside deleted elements: any {fewer} of {named} fit together, but not all {k}; perhaps an insert lost its place "
                    "because its neighbour was deleted meanwhile. {next}")
-NEXT = "Look first at where replica {replica} placed {element} in line {line}, beside {gone}, which had been deleted there."
+NEXT = "Look first at where replica {replica} placed {element} in line {line}: it belongs beside {gone}, which had been deleted there."
 NO_NEXT = "The lines above say which elements each response no longer has."
-SEVERAL_APART = ("Look at how a replica orders elements when it has only some of them: any {fewer} of {named} fit together, all {k} don't. An "
-                 "element that one of these responses lacks was not deleted there; it had not arrived yet. Often the rule that orders concurrent "
+SEVERAL_APART = ("Look at how a replica orders elements when it has only some of them: any {fewer} of {named} fit together, but not all {k}. Where one of these responses lacks an element, that had "
+                 "not arrived yet; no delete is involved. Often the rule that orders concurrent "
                  "inserts is not the same everywhere.")
-WEAK_ALONE_HOLDS = ("An editor whose server orders all changes, as Jupiter's does, promises only the weak list specification, which holds here. If yours is "
-                    "such a one, nothing is wrong here: ask for weak alone, in the tools by --weak.")
+WEAK_ALONE_HOLDS = ("An editor whose server orders all changes, as Jupiter's does, promises only the weak list specification, which holds here. If yours is such an editor, nothing is wrong here: "
+                    "use --weak, which asks for the weak specification alone.")
 IN_RANGE = ("[{new}] belongs between {left} and {right}, and both had been deleted, one directly after the other, by {first} and {then}, when it came to replica {replica} in line {line}: it may be an insert into the "
             "middle of a deleted range. Look at how such an insert is adjusted: it goes to where the range began, no further to the left. Look also at how the delete of a range is adjusted for it.")
 SETTLED = ("Look at where a replica places an incoming insert beside a deleted element: [{first}] was put before [{middle}] ({op_first}), and [{then}] behind it ({op_then}), so "
@@ -70,14 +70,14 @@ SETTLED_BY = {
     TREE: "This is not for the rule on concurrent inserts to decide: look at how the children of [{middle}] and of its neighbours are ordered and shown where it is deleted.",
     IDENTIFIERS: "Print the identifiers of [{first}], [{middle}] and [{then}] at both replicas: they must rise in this order. If they do not, look at how the one of [{first}] or "
                  "[{then}] was made; if they do, at how they are compared, and at the search for a place.",
-    POSITIONS: "Where [{middle}] is deleted both stand at one position, and that does not tell which comes first: look at what an insert is adjusted for at an equal position, on the "
-               "server and on each client, and whether a delete that came between is taken in the same order everywhere.",
+    POSITIONS: "Where [{middle}] is deleted both stand at one position, and that does not tell which comes first: look at how two inserts at an equal position are ordered, on the server and on "
+               "each client, and whether a delete between them is processed in the same order everywhere.",
 }
-HIDDEN_ORDER = ("[{new}] was put directly {side} {hidden} ({insert}), and {hidden} and [{old}] were inserted{place} without knowing of each other. {hidden} is deleted at replica {replica}, which never "
-                "showed both: perhaps it has these two in another order than replica {author}, and [{new}] follows {hidden} there. So look at the order of concurrent inserts, {hidden} and [{old}], "
-                "first: at what is done in {lines}.")
-PAST = ("If inserts find their place by a neighbour, look at how [{other}] found its place{there}: if the search goes past [{behind}], it must also go past all that was put "
-        "behind [{behind}], also in the next block of a list that is kept in blocks.")
+HIDDEN_ORDER = ("[{new}] was put directly {side} {hidden} ({insert}), and {hidden} and [{old}] were inserted{place} without knowing of each other. {hidden} is deleted at replica {replica}, which "
+                "never showed the two together: perhaps it keeps them in another order than replica {author}, and [{new}] follows {hidden} there. So look first at the order of the concurrent "
+                "inserts {hidden} and [{old}]: at what is done in {lines}.")
+PAST = ("If inserts find their place by a neighbour, look at how [{other}] found its place{there}: if the search goes past [{behind}], it must also go past all that was put behind [{behind}], even "
+        "where that goes on in the next block of a list that is kept in blocks.")
 INSIDE = ("{operation} shows [{new}] between [{left}] and [{right}], though [{one}] was put directly {side} [{beside}] by {insert}, which did not know of it. In a tree an element stands beside a "
           "sibling and all that hangs on that: look at how the place before or behind a sibling is found, by the first or last of all that hangs on it, and only then at the order of "
           "siblings.")
@@ -86,10 +86,10 @@ BEHIND_UNKNOWN = "[{element}] was put directly behind [{behind}], which the auth
 BEHIND_DELETED = " Look also at inserts beside deleted elements: where [{behind}] was thrown away as deleted, nothing says where [{element}] belongs."
 CONCURRENT = ("Look at the order of concurrent inserts: {first} and {then} were inserted{place} without knowing of each other, and were shown "
               "in two different orders.{rule}{print}")
-RULE = (" Use a rule that gives the same order everywhere (such as the replicas' numbers), also in special cases, as for appending; not the order in which each replica received them.")
+RULE = (" Use a rule that gives the same order everywhere (such as the replicas' numbers), even in special cases such as appending; never the order of arrival.")
 RULES = {"": RULE, NEIGHBOURS: RULE, IDENTIFIERS: "",
-         POSITIONS: " At an equal position the same one must come first on each client, and on the server if it adjusts positions: look at which one does, for what arrives and for the "
-                    "replica's own changes that are still on their way.",
+         POSITIONS: " At an equal position the same one must come first on each client, and on the server if it adjusts positions: look at which one your code puts first, for arriving changes and "
+                    "for the replica's own ones that are still on their way.",
          TREE: " Children of one parent must stand in one order everywhere (such as by the replicas' numbers), and each with all that hangs on it."}
 PRINT = {  # what tells a fault of what is sent from one of how it is applied
     "": "", POSITIONS: " Client and server must adjust in the same way, and each change only once.",
@@ -107,26 +107,25 @@ MOVED_OR_TIED = ("Look at how a position is adjusted where a change arrives: the
 EITHER = ("Look at the order of concurrent inserts: {first} and {then} were inserted at one place without knowing of each other, and were shown in two "
           "different orders. Either the position of {element} was not adjusted for {changes}, which replica {replica} knew and the author of {element} did not{back}; "
           "or the rule that orders them is not the same everywhere. Client and server must adjust in the same way, and each change only once.")
-REBASED = ("Replica {replica} inserted both {one} and {two} itself. If the editor takes back its own changes when others' arrive, and applies them anew (rebasing), look at "
-           "where that puts them.")
-LET_OUT = (" [{old}] came to replica {replica} with others, and no list was shown between (line {first} to line {last}): perhaps out of a waiting room. Look at whether a change that is let out of there does all "
-           "that others do, such as advancing the clock.")
+REBASED = ("Replica {replica} inserted both {one} and {two} itself. If the editor takes back its own changes when changes of others arrive, and applies them again (rebasing), look at where that puts them.")
+LET_OUT = (" [{old}] arrived at replica {replica} together with others, with no list shown between (line {first} to line {last}): perhaps it had been held back, and was released then. Look at "
+           "whether a released change does all that others do, such as advancing the clock.")
 SEEN = ("When replica {author} inserted [{new}] ({later}, line {line}), it had [{old}] already{since}, and put [{new}] {side} it. That order must hold everywhere, but {operation} "
         "shows [{new}] {other_side} [{old}]. {look}.{numbers}{let_out}")
-OF_AUTHOR_OR_PLACE = "Look at what that insert says, as replica {author} made it, and at where replica {replica} placed it{arrived}"
+OF_AUTHOR_OR_PLACE = "Look at the message that replica {author} made for that insert, and at where replica {replica} placed it{arrived}"
 BETWEEN_THE_TWO = "Look at what replica {author} did between the two"
-SEEN_IN_CYCLE = ("When replica {author} inserted [{new}] ({later}, line {line}), it had [{old}] already{since}, and put [{new}] {side} it: look at whether that insert says so too, and by "
-                 "its number.{numbers}{let_out}")
+SEEN_IN_CYCLE = ("When replica {author} inserted [{new}] ({later}, line {line}), it had [{old}] already{since}, and put [{new}] {side} it: look at whether the message for that insert says so too, "
+                 "and its number.{numbers}{let_out}")
 SHOWN_ALONE = ("Replica {replica} inserted [{new}] ({insert}, line {line}) {side} [{old}]. No other replica shows them so. After its next receipt (line {receipt}), from {own} on, replica {replica} itself shows [{new}] "
                "{other_side} [{old}], like the others. ")
 ANOTHER_PLACE = ("So the message for this insert seems to name another place than the one where its author put it: compare where a local insert goes into the list with what its message "
                  "says.")
 MOVED_THEN = "Look first at what is done in line {receipt}: at " + OWN_ADJUSTED
-ALONE_BY = {"": ANOTHER_PLACE + " Or the insert was moved in line {receipt}, behind a server: then look at how the replica's own changes that are still on their way are adjusted for what arrives.",
+ALONE_BY = {"": ANOTHER_PLACE + " Or, if replicas talk through a server, the insert was moved in line {receipt}: then look at how the replica's own changes that are still on their way are adjusted for what arrives.",
             NEIGHBOURS: ANOTHER_PLACE, TREE: ANOTHER_PLACE, IDENTIFIERS: ANOTHER_PLACE, POSITIONS: MOVED_THEN + " Then look at what the message for the insert says."}
-ONE_IS_WRONG = ("behind a server or a relay, perhaps its answer to the replica's own change. Then one of the two lists is wrong: that of {before}{made}, or the one after the answer. "
-                "Two pieces of code must adjust in the same way: the one for an arriving change and the replica's own changes that are still on their way, and the one for the answer{server}. Compare which changes they "
-                "adjust, whether each only once, and which of two at one position comes first.")
+ONE_IS_WRONG = ("with a server or a relay, perhaps its acknowledgement of the replica's own change. Then one of the two lists is wrong: that of {before}{made}, or the one after the "
+                "acknowledgement. Two pieces of code must adjust in the same way: (1) the one that adjusts an arriving change and the replica's own changes on their way for each other; (2) the one "
+                "that handles the acknowledgement{server}. Compare which changes they adjust, whether each only once, and which of two at one position comes first.")
 TURNED_BY_ITSELF = ("Replica {replica} shows {two} before {one} in {before}, and {one} before {two} in {after}, though it received and changed nothing between. Something that is not "
                     "recorded did that: ")
 MOVED_INSERT = ("If the editor sends positions, the position of {element} was perhaps not adjusted for {changes}, which replica {replica} "
@@ -446,7 +445,7 @@ def turned_then(evidence: Evidence, before: Operation) -> str:
         return BY_ITSELF
     receipts = [receipt for receipt in evidence.recording.receipts[before.replica] if receipt.line < before.line]
     made = f", made when {receipts[-1].seen.name} came in line {receipts[-1].line}" if receipts else ""
-    return ONE_IS_WRONG.format(before=at(before), made=made, server=", on the server too, if it adjusts positions")
+    return ONE_IS_WRONG.format(before=at(before), made=made, server="; so must the server, if it adjusts positions")
 
 
 def settled_by_another(evidence: Evidence, first: Operation, then: Operation) -> list:

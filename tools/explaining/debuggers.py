@@ -128,11 +128,11 @@ def statement(recording: Recording, entry: Operation | Receipt, language: str) -
     name, words = LANGUAGES[language]
     is_read = isinstance(entry, Operation) and entry.kind in ("read", "view")
     first = first_together(recording, entry)
-    then, asked = f"there the recording has {entry.line - 1} lines", words.format(entry.line - 1)
+    then, asked = f"it stops when {entry.line - 1} lines have been recorded", words.format(entry.line - 1)
     if first < entry.line:
-        then += f", or {first - 1} if one call wrote lines {first} to {entry.line}"
+        then += f", or {first - 1} if one call of the recorder wrote lines {first} to {entry.line}"
         asked = FOR_TWO[language].format(first - 1, entry.line - 1)
-    return f" In {name}, put this {READS if is_read else BEGINS} ({then}): {asked}"
+    return f" In {name}, put this {READS if is_read else BEGINS}; {then}: {asked}"
 
 
 def first_together(recording: Recording, entry: Operation | Receipt) -> int:

@@ -123,8 +123,8 @@ def write_small(path: str, evidence: Evidence, told: Evidence, program: str, kno
     placed = [f"{number} {known.places[line]}" for number, line in enumerate(small.lines, FIRST_ENTRY) if line in known.places]
     if os.path.isfile(path):  # a pipe or a device has no file beside it
         write(path + SIDE, "".join(f"{line}\n" for line in [len(lines), SMALL_MARK.decode(), *known.marks(small.lines), *placed]))
-    print(f"\n{shown(path)} {same_as(evidence, told)} in {len(lines)} lines of {len(evidence.recording.lines)}. It leaves out what the verdict doesn't need, such as deletes, and perhaps the "
-          "cause too: if you repeat these steps, your editor may answer differently. Each operation, and its name in the whole trace:")
+    print(f"\n{shown(path)} {same_as(evidence, told)} in {len(lines)} lines instead of {len(evidence.recording.lines)}. It keeps only what the verdict needs. What causes the bug may be among "
+          "what was left out: if you repeat these steps, your editor may answer differently. Each operation, and its name in the whole trace:")
     named = [f"{name} = {operation.name} (line {operation.line})" for name, operation in small.operations]
     print("  " + ", ".join(named[:MOST_TOLD]) + (f", and {len(named) - MOST_TOLD} more" if len(named) > MOST_TOLD else ""))
 

@@ -25,10 +25,10 @@ IN_WORDS = {
     NAMES_GONE: "a change arrived that deletes, or stands beside, an element which was deleted there",
     TOGETHER: "several changes arrived at once",
     AFTER_SEVERAL: "a change arrived whose author had received several messages since its own last change",
-    UNSEEN["ins", "ins"]: "an insert arrived whose author had not seen an insert that was there",
-    UNSEEN["ins", "del"]: "an insert arrived whose author had not seen a delete that was there",
-    UNSEEN["del", "ins"]: "a delete arrived whose author had not seen an insert that was there",
-    UNSEEN["del", "del"]: "a delete arrived whose author had not seen a delete that was there",
+    UNSEEN["ins", "ins"]: "an insert arrived whose author had not seen an insert that the receiver had",
+    UNSEEN["ins", "del"]: "an insert arrived whose author had not seen a delete that the receiver had",
+    UNSEEN["del", "ins"]: "a delete arrived whose author had not seen an insert that the receiver had",
+    UNSEEN["del", "del"]: "a delete arrived whose author had not seen a delete that the receiver had",
     OWN_BESIDE: "a replica inserted where an element had been deleted",
     TYPED_ON: "a replica inserted right behind its own last insert",
     BEFORE_OTHERS: "a replica inserted right before what another one had inserted",
@@ -208,7 +208,7 @@ def standing_out(failing: list, passing: list) -> list:
             found.append(Telling(weight(count / len(failing), others, len(passing)), name, count, False, f"also in {others} of those that pass"))
         count, others = sum(name in session.last for session in failing), sum(name in one for one in lists)
         if len(lists) >= FEWEST_LISTS and count >= MANY_LISTS * len(failing):
-            found.append(Telling(weight(count / len(failing), others, len(lists)), name, count, True, f"also before {round(100 * others / len(lists))} % of the right lists"))
+            found.append(Telling(weight(count / len(failing), others, len(lists)), name, count, True, f"also before {round(100 * others / len(lists))} % of the lists that are right"))
     least = max(TELLING, -log(BY_CHANCE) / len(failing))
     general = set().union(*GENERAL.values())
     told = []
@@ -238,8 +238,8 @@ def in_common(rows: list) -> list:
         lines.append(f"  {'right before' if one.is_right_before else 'before'} {which}: {IN_WORDS[one.name]} ({one.others})")
     without = unneeded(failing) if lines else []
     lines += [f"  not needed: {', '.join(without)}"] if without else []
-    beside = f", beside {counted(passing, right, 'session')} that pass{'' if right[1:] else 'es'}" if passing else ""
-    return [f"What {counted(failing, wrong, 'failure')} have in common{beside}. Look first at what your editor does in that situation; the most telling one comes first:",
+    beside = f", compared with {counted(passing, right, 'session')} that pass{'' if right[1:] else 'es'}" if passing else ""
+    return [f"What {counted(failing, wrong, 'failure')} have in common{beside}. Look at what your editor does in these situations, the most telling first:",
             *lines] if lines else []
 
 

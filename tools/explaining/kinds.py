@@ -27,7 +27,7 @@ CONDITIONS = {  # how words begin that hold of some kinds alone
 }
 OF_POSITIONS = "In an editor that sends positions, later changes then land in the wrong place."  # stands behind other words
 TOLD = "; ".join(f"{kind} ({told})" for kind, told in KINDS.items())
-HINT = f"To leave out causes that your editor can't have, name its kind by --editor or {VARIABLE}: {TOLD}."
+HINT = f"To leave out causes that your editor can't have, name its kind by the option --editor or the variable {VARIABLE}: {TOLD}."
 ABOUT_KIND = f"the editor's kind, so that the words leave out what it can't have; by default that of {VARIABLE}: {TOLD}"
 
 

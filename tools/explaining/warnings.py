@@ -87,7 +87,7 @@ def hidden(trace: bytes) -> tuple:
     nothing is checked again."""
     _, second, *entries = trace.split(b"\n")[:-1]
     if not entries:
-        return [], [f"{NOTHING}: the trace has no entry, so the verdict says nothing of an editor"]
+        return [], [f"{NOTHING}: the trace has no entry, so the verdict says nothing about your editor"]
     replicas = [Seen(int(second.split()[1])) for _ in range(int(second.split()[1]))]
     inserted, deletes, past_end = set(), [], []
     for line, entry in enumerate(entries, 3):

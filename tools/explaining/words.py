@@ -48,8 +48,8 @@ def explanation(evidence: Evidence, told: Evidence, language: str = debuggers.US
     whole = whole_trace(evidence, told)
     is_alike = verdict_of(evidence.report) == verdict_of(told.report)  # then more responses would tell nothing new
     if whole:
-        more = " as well, because of other responses" if is_alike else ": see the end"
-        headline += f" This fault comes first, in lines 1 to {told.last_line}: start here. The whole trace is {verdict_of(evidence.report)}{more}."
+        more = "the same verdict, because of other responses" if is_alike else f"another verdict, {verdict_of(evidence.report)}, which is explained below"
+        headline += f" This fault comes first, in lines 1 to {told.last_line}: start with it. The whole trace has {more}."
     if weak and is_weak_alone(evidence.report):
         headline = f"{WEAK_ALONE}: this passes, since only the weak list specification is asked for. Why the strong one fails: {headline}"
     return Explanation(headline, [*when_it_went_wrong(evidence, told, weak), *without_receipts(told), *sections, *where,
@@ -62,7 +62,7 @@ def of_whole(evidence: Evidence, told: Evidence) -> list:
     contradiction shows more."""
     if not evidence.report.get("k") == 2 < told.report.get("k", 0):
         return []
-    return [Cause(cause.name, otherwise("For the whole trace (see the end)", cause.told)) for cause in causes_of(evidence)
+    return [Cause(cause.name, otherwise("For the verdict on the whole trace", cause.told)) for cause in causes_of(evidence)
             if cause.name != "beside deleted"]  # which speaks of lines above
 
 
@@ -70,7 +70,7 @@ def specifications(report: dict, is_of_whole: bool) -> Section:
     """What the verdict says by definition, which a user need not know to mend the editor; where all before is of a beginning, of what this is."""
     holds = {True: "holds", False: "fails"}
     if "strong" not in report:
-        told = "neither the strong nor the weak one was judged: both know an element by its name"
+        told = "neither the strong nor the weak one was judged: both tell elements apart by their names"
     elif report["strong"] == report["weak"]:
         told = f"strong and weak {'hold' if report['strong'] else 'fail'}"
     else:
@@ -421,16 +421,16 @@ def arrived(recording: Recording, seen: Operation, operation: Operation) -> str:
     way = recording.way(seen, operation)
     if not way:
         return f"an earlier operation of replica {operation.replica}"
-    hops = [f"{how_arrived(receipt, seen)}{', whose author had it,' * (place > 0)} in line {receipt.line} ({receipt.text})"
-            + ", a line that `delivered` wrote" * recording.is_delivered(receipt.line) for place, receipt in enumerate(way)]
-    return "which " + ", and ".join(hops)
+    hops = [f"{how_arrived(receipt, seen)} in line {receipt.line} ({receipt.text})" + ", a line that `delivered` wrote" * recording.is_delivered(receipt.line) for receipt in way]
+    return "which " + ", and which ".join(hops)
 
 
 def how_arrived(receipt: Receipt, seen: Operation) -> str:
     """That an operation arrived by a receipt of its own, or with what another one names."""
     if receipt.seen is seen:
         return f"arrived at replica {receipt.replica}"
-    return f"counts as arrived at replica {receipt.replica} with {receipt.seen.name}"
+    why = "a later operation of its author" if receipt.seen.replica == seen.replica else "whose author had it"
+    return f"replica {receipt.replica} should have had when {receipt.seen.name}, {why}, arrived"
 
 
 def not_arrived(recording: Recording, seen: Operation, operation: Operation) -> str:
@@ -439,7 +439,8 @@ def not_arrived(recording: Recording, seen: Operation, operation: Operation) -> 
     late = recording.arrival(seen, operation.replica)
     if late is None:
         return f"and replica {operation.replica} has no receipt of it"
-    return f"and replica {operation.replica}'s first receipt of {seen.name} is line {late.line} ({late.text}), after this response"
+    with_it = "" if late.seen is seen else f"with {late.seen.name}, "
+    return f"and that arrived at replica {operation.replica} only {with_it}in line {late.line} ({late.text}), after this response"
 
 
 def position(evidence: Evidence) -> tuple:
