@@ -50,8 +50,8 @@ WRONG_DELETE = ("It looks as if {delete}, applied at replica {replica}, deleted 
 WRONG_LOCAL_DELETE = ("It looks as if {delete} deleted {missing} instead of {surplus}: look at how a local delete finds the element, and at whether the recorder writes the name of the element that was really deleted.")
 RIVALS = (" {missing} and {element} were inserted into one gap without knowing of each other. Which of them comes first must be decided by a rule that never ties (such as the replicas' numbers, "
           "not letters) and is the same on both sides; else the delete hits the other one.")
-WRONG_POSITION = ("It looks as if {delete}, applied at replica {replica}, deleted {missing} instead of {surplus}: look at how the position of {delete} is adjusted there, also for the replica's own "
-                  "changes that the author of {delete} had not seen; and at whether the recorder writes the name of the element that was really deleted.")
+WRONG_POSITION = ("It looks as if {delete}, applied at replica {replica}, deleted {missing} instead of {surplus}: look at how the position of {name} is adjusted there, also for the replica's own "
+                  "changes that the author of {name} had not seen; and at whether the recorder writes the name of the element that was really deleted.")
 TIED = ("{one} and {two} were inserted at one place without knowing of each other, and are shown in two orders: {one} before {two} in {before}, {two} before {one} in {after}. "
         "Look first at the order of concurrent inserts: it must be decided by a rule that never ties (such as the replicas' numbers, not letters). Where the order differs, a later change by position hits another element.")
 MISNAMED = ("{deletes} delete{s} {named}; but {wrong}, while {missing}. Look at which ids a local delete puts into the change that it sends{several}.")
@@ -72,7 +72,7 @@ SECOND_DELETE = {
     False: "It looks as if {again}{applied} deleted {missing} instead of {element}: look at how a replica that applies a delete finds the element. {element} was already deleted "
            "there, by {first}, so look also at what the editor does with a delete whose element is gone.",
     True: "It looks as if {again}{applied} deleted {missing}. Its own element, {element}, was already deleted there, by {first}: such a delete must change nothing. Look at what the "
-          "editor does with it; and at how the position of {again} is adjusted there, also for the replica's own changes that the author of {again} had not seen.",
+          "editor does with it; and at how the position of {name} is adjusted there, also for the replica's own changes that the author of {name} had not seen.",
 }
 CAUSAL = ("Your editor may be right, but it needs operations in causal order: apply an operation only after everything that its author had seen, or send all of that along with it. If the editor itself holds operations "
           f"back, write the receipt of each only when it is applied. {GUIDE} shows what to record in each case.")
@@ -328,7 +328,7 @@ def wrong_delete(evidence: Evidence, operation: Operation) -> list:
     if is_deleted or not news or is_new or not any(map(operation.has_seen, inserts)):
         return []
     look = WRONG_LOCAL_DELETE if news[0] is operation else WRONG_POSITION if evidence.kind == POSITIONS else WRONG_DELETE
-    told = look.format(delete=at(news[0]), replica=operation.replica, missing=missing, surplus=surplus) + rivals(evidence, news[0], missing) + where_it_came(evidence, news[0], [missing])
+    told = look.format(delete=at(news[0]), name=news[0].name, replica=operation.replica, missing=missing, surplus=surplus) + rivals(evidence, news[0], missing) + where_it_came(evidence, news[0], [missing])
     counted_twice = deleted_twice(evidence) if news[0] is operation else []
     return tied_first([Cause("wrong delete", told), *counted_twice, *moved_delete(evidence, news[0])])
 
@@ -533,7 +533,7 @@ def replaced(evidence: Evidence) -> list:
 def second_delete(evidence: Evidence) -> list:
     found = evidence.second_deletes[:1]
     replica = evidence.operations[0].replica
-    return [Cause("second delete", SECOND_DELETE[evidence.kind == POSITIONS].format(again=at(again), element=again.element, first=at(first),
+    return [Cause("second delete", SECOND_DELETE[evidence.kind == POSITIONS].format(again=at(again), name=again.name, element=again.element, first=at(first),
                                                         missing=listed(evidence.lost, MOST_TOLD), applied="" if again.replica == replica else f", applied at replica {replica},") + where_it_came(evidence, again, evidence.lost))
             for again, first in found] + [one for again, _ in found for one in moved_delete(evidence, again) if one.name == "positions"]
 
