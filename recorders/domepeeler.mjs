@@ -62,7 +62,7 @@ const LAST = "\nThe list specifications\n" // the title of the last section ther
 const WARNINGS = /^What this verdict may hide\n(?:  .*\n)*/m // a section there
 const NAMED = /\(line (\d+)\)/g // a line in a warning, whose place is put behind it
 // The statement for a debugger.
-const STATEMENT = /^(  stop before line (\d+) of the trace, .*?) In [A-Z][A-Za-z ]*, put this right before [^:]+: .*/gm
+const STATEMENT = /^(  stop before line (\d+) of the trace, .*)\n  In [A-Z][A-Za-z ]*, put the next line right before .*\n.*/gm
 // A line of a stack, with the path or the URL of a file, and the line in it.
 const FRAME = /^ +at (?:async |.*\()?((?:[a-z]{2,}:\/\/|\/|[A-Za-z]:[\\/]).*:\d+):\d+\)?$/
 const OWN = String(import.meta.url)

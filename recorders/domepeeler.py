@@ -77,7 +77,7 @@ LINE = re.compile(r"\bline (\d+)(?=[,):]| of the trace,| \(\d+ recv )")  # a lin
 LAST = "\nThe list specifications\n"  # the title of the last section there
 WARNINGS = re.compile(r"^What this verdict may hide\n(?:  .*\n)*", re.MULTILINE)  # a section there
 NAMED = re.compile(r"\(line (\d+)\)")  # a line in a warning, whose place is put behind it
-STATEMENT = re.compile(r"^(  stop before line (\d+) of the trace, .*?) In [A-Z][A-Za-z ]*, put this right before [^:]+: .*",
+STATEMENT = re.compile(r"^(  stop before line (\d+) of the trace, .*)\n  In [A-Z][A-Za-z ]*, put the next line right before .*\n.*",
                        re.MULTILINE)  # for a debugger
 MOST_WARNED = 5  # deletes, or inserts, that are warned of one by one
 MOST_CHANGES = 3  # that are warned of one by one of those that a replica lacks, or has made nothing of

@@ -63,10 +63,10 @@ def stop(line: int, doing: str, *others: int, together: int = 0) -> str:
     doing += f"; if nothing is wrong there, stop at {arrivals[len(others) > 1]} ({before})" if others else ""
     asked = f"if recording.lines() == {line - 1}: breakpoint()"
     where = "right before the call that reads the list" if "reads the list" in doing else "right before the call that makes the editor apply a change, local or remote"
-    or_first = f", or {together - 1} if one call of the recorder wrote lines {together} to {line}" if together else ""
+    or_first = f", and at {together - 1} in case one call of the recorder wrote lines {together} to {line}" if together else ""
     asked = f"if recording.lines() in ({together - 1}, {line - 1}): breakpoint()" if together else asked
-    where += f"; it stops when {line - 1} lines have been recorded{or_first}"
-    return f"|In a debugger|stop before line {line} of the trace, where {doing}. In Python, put this {where}: {asked}"
+    where += f". It stops when {line - 1} lines have been recorded{or_first}."
+    return f"|In a debugger|stop before line {line} of the trace, where {doing}.|In Python, put the next line {where}|{asked}"
 
 
 UNSHOWN = "let each replica read at the end"
@@ -87,7 +87,7 @@ WORDS = [
      "b arrived at replica 0 in line 5, a at replica 1 in line 6|"
      "Look at the order of concurrent inserts: a and b were inserted at the front without knowing of each other, and were shown in two different orders. "
      "Use a rule that gives the same order everywhere (such as the replicas' numbers), even in special cases such as appending; never the order of arrival.|"
-     "If the list is sorted by position identifiers, look at those of a and b: are the two equal, does one differ between replicas, are numbers compared as text, or does one not lie between those of its neighbours?" + stop(6, "replica 1 applies 0.1", 5)),
+     "If the list is sorted by position identifiers, look at those of a and b: are the two equal, does one differ between replicas, are numbers compared as text, or is one of them not between the identifiers of its neighbours?" + stop(6, "replica 1 applies 0.1", 5)),
     ("a replica that turns two elements round when it deletes another", 2, "0 ins a 0 : a|1 ins b 0 : b|1 recv 0 1|1 read : a b|1 ins c 2 : a b c|1 del c : b a",
      "[b] before [a]: line 8, 1.4: replica 1 deleted c, answered [b] [a]|Where to look|"
      "Replica 1 itself changed the order of elements that it had shown: a before b in 1.3 (line 7), b before a in 1.4 (line 8). Between the two it "
@@ -103,21 +103,20 @@ WORDS = [
      "Between the two it inserted c. Look at what decides which of b and a comes first: once both are inserted, their order must never change, "
      "whatever is inserted, deleted or received later.|If that is not the cause: look at how the position that a user sees is mapped to a place in the editor's own list; and at whether the recorder writes the position that was asked for." + stop(5, "replica 0 inserts c", together=3)),
     ("deletes of several of which the last was not done", 2, "0 ins a 0 : a|0 ins b 1 : a b|1 recv 0 2|1 read : a b|0 del a : b|0 del b :|1 recv 0 4|1 read : b",
-     "Where to look|0.3 (line 7) was applied at replica 1, but not 0.4 (line 8), which was made right after that. If your editor sends all of these deletes as one change, it looks as if that was applied in part: look at what a replica does where one of several elements is gone already, or has not come yet; and, if the change had to wait, at whether the editor checks again what is still lacking when one missing element arrives." + stop(9, "replica 1 applies 0.4")),
+     "Where to look|0.3 (line 7) was applied at replica 1, but not 0.4 (line 8), which was made right after that. If your editor sends all of these deletes as one change, it looks as if that was applied in part: look at what a replica does where one of several elements is gone already, or has not come yet; and, if the change had to wait, at whether the editor checks what is still missing each time a missing element arrives." + stop(9, "replica 1 applies 0.4")),
     ("deletes of several whose names are counted on from the first", 2, "0 ins x1 0 : x1|1 recv 0 1|1 ins y1 1 : x1 y1|1 ins z1 2 : x1 y1 z1|0 ins x2 1 : x1 x2|1 recv 0 2|1 read : x1 y1 z1 x2|"
      "1 del x1 : y1 z1 x2|1 del x2 : z1 x2",
      "Where to look|1.4 (line 10) and 1.5 (line 11) delete x1 and x2; but x2 is still shown, while y1 is gone. Look at which ids a local delete puts into the change that it sends: where it deletes several, each element has an id of its own, and these need not be consecutive." + stop(11, "replica 1 deletes x2", together=10)),
     ("an insert that takes another element away", 1, "0 ins a 0 : a|0 ins b 1 : a b|0 ins c 1 : a c",
-     "Where to look|Nothing came between 0.2 (line 4) and this, so look at the local insert itself: what it takes from the list or puts there, and which ids it puts into the change that "
-     "it sends." + stop(5, "replica 0 inserts c")),
+     "Where to look|The replica received nothing between 0.2 (line 4) and this response, so look at the local insert itself: at what it does to the list, and at which ids it puts into the change that it sends." + stop(5, "replica 0 inserts c")),
     ("a delete where the order of two at its place differs already", 2, "0 ins a 0 : a|0 ins w 1 : a w|1 ins c 0 : c|1 recv 0 1|1 read : a c|1 del c : a|0 recv 1 1|0 recv 1 3|0 read : c a",
-     "Where to look|c and a were inserted at one place without knowing of each other, and are shown in two orders: c before a in 0.3 (line 11), a before c in 1.2 (line 7). Look first at the order of concurrent inserts: it must be decided by a rule that never ties (such as the replicas' numbers, not letters). Where the order differs, a later change by position hits another element.|It looks as if 1.3 (line 8), applied at replica 0, deleted w instead of c: look at "
+     "Where to look|c and a were inserted at one place without knowing of each other, and are shown in two orders: c before a in 0.3 (line 11), a before c in 1.2 (line 7). Look first at the order of concurrent inserts: it must be decided by a rule that never ties (such as comparing the replicas' numbers, not the letters). Where the order differs, a later change by position hits another element.|It looks as if 1.3 (line 8), applied at replica 0, deleted w instead of c: look at "
      "how a replica that applies a delete finds the element, and at whether the recorder writes the name of the element that was really deleted." + stop(9, "replica 0 applies 1.1")),
     ("an insert beside a deleted element, where others before it went well", 2, "0 ins a 0 : a|0 ins b 1 : a b|0 ins c 2 : a b c|0 ins z 3 : a b c z|1 recv 0 4|1 read : a b c z|"
      "1 del a : b c z|0 ins p 1 : a p b c z|1 recv 0 5|1 read : p b c z|1 del b : p c z|0 ins q 3 : a p b q c z|1 recv 0 6|1 read : p q c z|1 del c : p q z|"
      "0 ins r 5 : a p b q c r z|1 recv 0 7|1 read : p q r z|1 del r : p q z|0 ins s 6 : a p b q c r s z|1 recv 0 8|1 read : p q z s",
      "Where to look|When replica 0 inserted [s] (0.8, line 22), it had [z] already, and put [s] before it. That order must hold everywhere, but 1.9 (line 24) shows [s] behind [z]. "
-     "Look at the message that replica 0 made for that insert, and at where replica 1 placed it in line 23. Often the clock that decides between inserts does not advance when changes arrive, or does not advance past the last element of a paste; or the neighbour is not found; or elements are stored in runs (blocks of several), and a run is split at a wrong offset (deleted elements count in it too).|If inserts find their place by a neighbour, look at inserts beside deleted elements: s came to replica 1 in line 23, where its neighbour r had been "
+     "Look at the message that replica 0 made for that insert, and at where replica 1 placed it in line 23. Often the clock that decides between inserts does not advance when changes arrive, or does not advance past the number of the last pasted element; or the neighbour is not found; or elements are stored in runs (blocks of several), and a run is split at a wrong offset (the offset must count deleted elements too).|If inserts find their place by a neighbour, look at inserts beside deleted elements: s came to replica 1 in line 23, where its neighbour r had been "
      "deleted. If replicas throw deleted elements away, nothing says then where the insert belongs; if they keep them, the search for its place must treat them like elements that are shown.|"
      "If the list is sorted by position identifiers, print those of r, s and z at line 22. If they do not rise in this order, look at how the identifier of s was made; if they do, at how "
      "identifiers are compared (numbers must not be compared as text).|If the editor sends positions, the position of s was perhaps not adjusted for the delete of a by 1.2 (line 9), the delete of b "
@@ -147,7 +146,7 @@ WORDS = [
      "[a] before [b]: line 5 of the trace, 1.1: replica 1 inserted b at position 1, answered [a] [b]|"
      "[b] before [a]: line 7, 0.2: replica 0 read the list, answered [b] [a]|"
      "a arrived at replica 1 in line 4, b at replica 0 in line 6|"
-     "When replica 1 inserted [b] (1.1, line 5), it had [a] already (since line 4), and put [b] behind it. That order must hold everywhere, but 0.2 (line 7) shows [b] before [a]. Look at the message that replica 1 made for that insert, and at where replica 0 placed it in line 6. Often the clock that decides between inserts does not advance when changes arrive, or does not advance past the last element of a paste; or the neighbour is not found; or elements are stored in runs (blocks of several), and a run is split at a wrong offset.|"
+     "When replica 1 inserted [b] (1.1, line 5), it had [a] already (since line 4), and put [b] behind it. That order must hold everywhere, but 0.2 (line 7) shows [b] before [a]. Look at the message that replica 1 made for that insert, and at where replica 0 placed it in line 6. Often the clock that decides between inserts does not advance when changes arrive, or does not advance past the number of the last pasted element; or the neighbour is not found; or elements are stored in runs (blocks of several), and a run is split at a wrong offset.|"
      "If the list is sorted by position identifiers, print those of a and b at line 5. If they do not rise in this order, look at how the identifier of b was made; if they do, at how identifiers are compared (numbers must not be compared as text)." + stop(6, "replica 0 applies 1.1", 4)),
     ("three-way cycle", 3, THREE_WAY,
      "refused 3: three responses can't be right together. Any two of them can.|"
@@ -160,7 +159,7 @@ WORDS = [
      "x arrived at replica 1 in line 4, x at replica 2 in line 5, a at replica 0 in line 9, b at replica 0 in line 10|"
      "Look at positions beside deleted elements: any two of 2.1, 0.3 and 1.1 fit together, but not all three; perhaps an insert lost its place "
      "because its neighbour was deleted meanwhile. Look first at where replica 0 placed b in line 10: it belongs beside x, which had been deleted there.|"
-     "If the list is sorted by position identifiers, look at those of x, b and a: are two of them equal, does one differ between replicas, are numbers compared as text, or does one not lie between those of its neighbours?|"
+     "If the list is sorted by position identifiers, look at those of x, b and a: are two of them equal, does one differ between replicas, are numbers compared as text, or is one of them not between the identifiers of its neighbours?|"
      "An editor whose server orders all changes, as Jupiter's does, promises only the weak list specification, which holds here. If yours is such an editor, nothing is wrong here: use --weak, which asks for the weak specification alone."
      + stop(10, "replica 0 applies 2.1", 9, 5, 4, together=9)),
     ("an insert that arrives beside a deleted element", 2, BESIDE_DELETED,
@@ -171,19 +170,19 @@ WORDS = [
      "c arrived at replica 0 in line 6, d at replica 1 in line 10||Where to look|"
      "If inserts find their place by a neighbour, look at inserts beside deleted elements: d "
      "came to replica 1 in line 10, where its neighbour b had been deleted. If replicas throw deleted elements away, nothing says then where the insert belongs; if they keep them, the search for its place must treat them like elements that are shown.|"
-     "When replica 0 inserted [d] (0.3, line 9), it had [c] already (since line 6), and put [d] before it. That order must hold everywhere, but 1.3 (line 11) shows [d] behind [c]. Look at the message that replica 0 made for that insert, and at where replica 1 placed it in line 10. Often the clock that decides between inserts does not advance when changes arrive, or does not advance past the last element of a paste; or the neighbour is not found; or elements are stored in runs (blocks of several), and a run is split at a wrong offset (deleted elements count in it too).|"
+     "When replica 0 inserted [d] (0.3, line 9), it had [c] already (since line 6), and put [d] before it. That order must hold everywhere, but 1.3 (line 11) shows [d] behind [c]. Look at the message that replica 0 made for that insert, and at where replica 1 placed it in line 10. Often the clock that decides between inserts does not advance when changes arrive, or does not advance past the number of the last pasted element; or the neighbour is not found; or elements are stored in runs (blocks of several), and a run is split at a wrong offset (the offset must count deleted elements too).|"
      "If the list is sorted by position identifiers, print those of b, d and c at line 9. If they do not rise in this order, look at how the identifier of d was made; if they do, at how identifiers are compared (numbers must not be compared as text).|If the editor "
      "sends positions, the position of d was perhaps not adjusted for the delete of b by 1.2 (line 8), which replica 1 knew and the author of d did not." + stop(10, "replica 1 applies 0.3", 6)),
     ("an insert between two that were put together", 2, "0 ins a 0 : a|0 ins b 1 : a b|1 ins c 0 : c|1 recv 0 2|1 read : a c b|0 recv 1 1|0 read : a b c",
      "[c] before [b]: line 7, 1.2: replica 1 read the list, answered a [c] [b]|Where to look|"
      "[b] was put directly behind [a]. The author of [c] knew neither, and 1.2 (line 7) shows [c] between the two. If inserts find their place by a "
-     "neighbour, look at how [c] found its place there: if the search goes past [a], it must also go past all that was put behind [a], even where that goes on in the next block of a list that is kept in blocks.|"
+     "neighbour, look at how [c] found its place there: if the search goes past [a], it must also go past all that was put behind [a], also where these elements go on in the next block (if the list is kept in blocks).|"
      "Look at the order of concurrent inserts: b and c were inserted without knowing of each other, and were shown in two different orders. Use a rule that "
      "gives the same order everywhere (such as the replicas' numbers), even in special cases such as appending; never the order of arrival."),
     ("an insert behind what the other author did not know, which is deleted", 2, "0 ins a 0 : a|0 ins b 1 : a b|0 del a : b|1 ins c 0 : c|1 recv 0 3|"
      "1 read : c b|0 recv 1 1|0 read : b c", "Where to look|"
      "[b] was put directly behind [a], which the author of [c] did not know. If inserts find their place by a neighbour, look at how [c] found its "
-     "place: if the search goes past [a], it must also go past all that was put behind [a], even where that goes on in the next block of a list that is kept in blocks. Look also at inserts beside "
+     "place: if the search goes past [a], it must also go past all that was put behind [a], also where these elements go on in the next block (if the list is kept in blocks). Look also at inserts beside "
      "deleted elements: where [a] was thrown away as deleted, nothing says where [b] belongs.|"
      "Look at the order of concurrent inserts: b and c were inserted without knowing of each other, and were shown in two different orders. Use a rule that "
      "gives the same order everywhere (such as the replicas' numbers), even in special cases such as appending; never the order of arrival."),
@@ -206,16 +205,15 @@ WORDS = [
      "When it showed|line 11 of the trace, 1.3: replica 1 read the list. Up to line 10 the session is accepted; line 11 makes it `refused 2`|"
      "before it: replica 1's 1.2 (line 8) answered c, which fits; since then it received 0.3 (line 10)|"
      "in the end replicas 0 and 1 have every change, as the receipts say, and show the same list||Where to look|Replica 0 inserted "
-     "[d] (0.3, line 9) before [c]. No other replica shows them so. After its next receipt (line 12), from 0.4 (line 13) on, replica 0 itself shows [d] behind [c], like the others. So the message for "
+     "[d] (0.3, line 9) before [c]. No other replica shows them in this order. After its next receipt (line 12), from 0.4 (line 13) on, replica 0 itself shows [d] behind [c], like the others. So the message for "
      "this insert seems to name another place than the one where its author put it: compare where a local insert goes into the list with what its message says. Or, if replicas talk through a server, the insert was moved in line 12: then look at how the replica's own changes that are still on their way are adjusted for what arrives." +
      stop(9, "replica 0 inserts d", 12, 10, 6)),
     ("a replica turns round what it reads, and has received nothing", 2, "0 ins a 0 : a|1 ins b 0 : b|0 recv 1 1|0 read : a b|1 recv 0 1|1 read : b a|1 read : a b", "Where to look|"
-     "Replica 1 shows b before a in 1.2 (line 8), and a before b in 1.3 (line 9), though it received and changed nothing between. Something that is not recorded did that: with a server or a relay, perhaps its acknowledgement of the replica's own change. Then one of the two lists is wrong: that of 1.2 (line 8), made when 0.1 came in line 7, or the one after the acknowledgement. Two pieces of code must adjust in the same way: (1) the one that adjusts an arriving change and the replica's own changes on their way for each other; (2) the one that handles the acknowledgement; so must the server, if it adjusts positions. Compare which changes they adjust, whether each only once, and which of two at one position comes first."),
+     "Replica 1 shows b before a in 1.2 (line 8), and a before b in 1.3 (line 9), though it received and changed nothing between. Something that is not recorded did that: with a server or a relay, perhaps its acknowledgement of the replica's own change. Then one of the two lists is wrong: that of 1.2 (line 8), made when 0.1 came in line 7, or the one after the acknowledgement. Two pieces of code must adjust in the same way: (1) the code that adjusts an arriving change for the replica's own changes on their way, and these for it; (2) the code that handles the acknowledgement; so must the server, if it adjusts positions. Compare which changes each of them adjusts, whether each only once, and which of two inserts at one position it puts first."),
     ("an insert beside what came since the last one", 2, "1 ins c 0 : c|0 ins a 0 : a|0 recv 1 1|0 read : a c|0 ins b 1 : a c b",
-     "found at: position 2||Where to look|c came to replica 0 in line 5, beside a, which the replica had inserted "
-     "itself before by 0.1 (line 4). Does the editor keep a position, or a range, from its last insert? Then what arrives there must update these." + stop(7, "replica 0 inserts b", 5)),
+     "found at: position 2||Where to look|c came to replica 0 in line 5, beside a, which the replica had inserted earlier, by 0.1 (line 4). Does the editor keep a position, or a range, from its last insert? Then a change that arrives must update it." + stop(7, "replica 0 inserts b", 5)),
     ("a read that has other elements, where nothing was received", 2, "0 ins a 0 : a|0 ins b 1 : a b|1 recv 0 2|1 read : a b|0 del a : b|1 recv 0 3|1 read : b|1 read : a", "Where to look|"
-     "Replica 1's answer in 1.2 (line 9) is right, and it has received nothing since. Look at what replica 1 does between that and this response; if there is a server, at what its acknowledgement of the replica's own change does there." + stop(10, "replica 1 reads the list", 8)),
+     "Replica 1's answer in 1.2 (line 9) is right, and it has received nothing since. Look at what replica 1 does between that answer and this one; if there is a server, also at what its acknowledgement of the replica's own change does." + stop(10, "replica 1 reads the list", 8)),
     ("a beginning that shows something else", 3, f"{THREE_WAY}|1 recv 0 2|1 recv 2 1|1 read : a b",
      "refused 3: three responses can't be right together. Any two of them can. This fault comes first, "
      "in lines 1 to 11: start with it. The whole trace has another verdict, `refused 2`, which is explained below.||"
@@ -232,7 +230,7 @@ WORDS = [
      "Where to look|"
      "Look at positions beside deleted elements: any two of 2.1, 0.3 and 1.1 fit together, but not all three; perhaps an insert lost its place "
      "because its neighbour was deleted meanwhile. Look first at where replica 0 placed b in line 10: it belongs beside x, which had been deleted there.|"
-     "For the verdict on the whole trace: look at where a replica places an incoming insert beside a deleted element: [a] was put before [x] (1.1, line 6), and [b] behind it (2.1, line 7), so [x] settles their order, also where it is deleted; yet 0.3 (line 11) shows them the other way round. This is not for the rule on concurrent inserts to decide.|For the verdict on the whole trace: if the list is sorted by position identifiers, look at those of a and b: are the two equal, does one differ between replicas, are numbers compared as text, or does one not lie between those of its neighbours?|For the verdict on the whole trace: if the editor sends positions, the position of b was perhaps not adjusted for the delete of x by 0.2 (line 8), which replica 1 "
+     "For the verdict on the whole trace: look at where a replica places an incoming insert beside a deleted element: [a] was put before [x] (1.1, line 6), and [b] behind it (2.1, line 7), so [x] settles their order, also where it is deleted; yet 0.3 (line 11) shows them the other way round. The rule for concurrent inserts must not decide this.|For the verdict on the whole trace: if the list is sorted by position identifiers, look at those of a and b: are the two equal, does one differ between replicas, are numbers compared as text, or is one of them not between the identifiers of its neighbours?|For the verdict on the whole trace: if the editor sends positions, the position of b was perhaps not adjusted for the delete of x by 0.2 (line 8), which replica 1 "
      "knew and the author of b did not; or the position of the delete was not adjusted for an insert that the author of the delete had not seen.|"
      "" + stop(10, "replica 0 applies 2.1", 9, 5, 4, together=9) + "||What the whole trace shows: a circle, which no order allows|"
      "[a] before [b]: line 14, 1.2: replica 1 read the list, answered [a] [b]|"
@@ -254,7 +252,7 @@ WORDS = [
      "[b] before [c]: line 9, 1.2: replica 1 read the list, answered [b] [c]|"
      "[c] before [a]: line 11, 2.2: replica 2 read the list, answered [c] [a]|"
      "b arrived at replica 0 in line 6, c at replica 1 in line 8, a at replica 2 in line 10|"
-     "Look at how a replica orders elements when it has only some of them: any two of 0.2, 1.2 and 2.2 fit together, but not all three. Where one of these responses lacks an element, that had not arrived yet; no delete is involved. Often the rule that orders concurrent inserts is not the same everywhere."
+     "Look at how a replica orders elements when it has only some of them: any two of 0.2, 1.2 and 2.2 fit together, but not all three. An element that one of these responses lacks had simply not arrived yet; no delete is involved. Often the rule that orders concurrent inserts is not the same everywhere."
      + stop(10, "replica 2 applies 0.1", 8, 6)),
     ("an element that came along with what had seen it", 3, "0 ins a 0 : a|1 recv 0 1|1 read : a|1 ins b 1 : a b|2 recv 1 1|2 recv 1 2|"
      "2 recv 0 1|2 read : b a",
@@ -270,8 +268,8 @@ WORDS = [
      "contents 2.1: this response lacks one element that replica 2 should have had by then.|"
      "line 7 of the trace, 2.1: replica 2 read the list|answered: b|it should hold, in any order: b [a]|"
      "before it: replica 2 did nothing, and received 1.1 (line 6)|Missing|"
-     "[a] inserted by 0.1 (line 3), which arrived at replica 1 in line 4 (1 recv 0 1), and which "
-     "replica 2 should have had when 1.1, whose author had it, arrived in line 6 (2 recv 1 1)|[a] 0.1 has no receipt of its own at replica 2. If "
+     "[a] inserted by 0.1 (line 3), which arrived at replica 1 in line 4 (1 recv 0 1). "
+     "Replica 2 should have had it since line 6 (2 recv 1 1): the author of 1.1 had it|[a] 0.1 has no receipt of its own at replica 2. If "
      "each operation travels by itself, 1.1 arrived without 0.1 (line 6): that is not causal order|[a] is never deleted||Where to look|"
      "Look first at whether 0.1 was lost on its way to replica 2: no receipt there names it. If it was not lost but overtaken, look at the order in which "
      "operations arrive. Your editor may be right, but it needs operations in causal order: apply an operation only after everything that its author had seen, or send all of that along with it. If the editor itself holds "
@@ -288,11 +286,11 @@ WORDS = [
      "answered: (nothing)|it should hold, in any order: [a]|"
      "before it: replica 0's 0.1 (line 3) answered [a], which is right; since then it received nothing|"
      "[a] inserted by 0.1 (line 3), an earlier operation of replica 0|"
-     "[a] deleted by 1.1 (line 5), and that arrived at replica 0 only in line 7 (0 recv 1 1), after this response" + stop(6, "replica 0 reads the list")),
+     "[a] deleted by 1.1 (line 5), which replica 0 got only in line 7 (0 recv 1 1), after this response" + stop(6, "replica 0 reads the list")),
     ("a deleted element shown", 2, "0 ins a 0 : a|0 del a :|1 recv 0 2|1 read : a",
      "contents 1.1: this response has one element that should not be there.|"
      "answered: [a]|it should hold, in any order: (nothing)|Extra|"
-     "[a] inserted by 0.1 (line 3), which replica 1 should have had when 0.2, a later operation of its author, arrived in line 5 (1 recv 0 2)|"
+     "[a] inserted by 0.1 (line 3). Replica 1 should have had it since line 5 (1 recv 0 2): 0.2 is a later operation of its author|"
      "[a] deleted by 0.2 (line 4), which arrived at replica 1 in line 5 (1 recv 0 2)"),
     ("a deleted element shown, beside one that was there", 2, "0 ins a 0 : a|0 ins b 1 : a b|1 recv 0 2|1 read : a b|0 del b : a|1 recv 0 3|1 read : a b",
      "contents 1.2: this response has one element that should not be there.|answered: a [b]|it should hold, in any order: a|Extra|"
@@ -317,7 +315,7 @@ WORDS = [
      "It looks as if 0.3 (line 8) was not applied at replica 1: lost, or held back, or `received` is called before the change is applied. Or it deleted "
      "another element, one that was already deleted there: look at how a replica that applies a delete finds the element (is the whole id compared?)."),
     ("a change that is applied twice", 2, "0 ins a 0 : a|0 ins b 1 : a b|1 recv 0 2|1 read : a b a", "Named more than once|"
-     "[a] inserted by 0.1 (line 3), which replica 1 should have had when 0.2, a later operation of its author, arrived in line 5 (1 recv 0 2)||Where to look|"
+     "[a] inserted by 0.1 (line 3). Replica 1 should have had it since line 5 (1 recv 0 2): 0.2 is a later operation of its author||Where to look|"
      "It looks as if 0.1 (line 3) was applied twice at replica 1: look at what the editor does with a change that arrives a second time, and at "
      "whether a change that was held back is applied twice: on arrival and again later."),
     ("its own changes that come back", 1, "0 ins a 0 : a|0 ins b 1 : a b|0 read : a b a b", "Named more than once||Where to look|"
@@ -356,7 +354,7 @@ WORDS = [
      "position 1.1: c is not at the position that was asked for.|asked for: position 0; the answer has [b] there|found at: position 1||"
      "Where to look|"
      "If the editor decides by numbers (a clock, ids) which of two inserts at one place comes first, look at theirs: c stands behind b, which replica 1 had "
-     "already. To stand before, c needs a number greater than that of b; perhaps it has none. Usual causes: the clock does not advance when changes arrive, or when one that was held back is applied; "
+     "already. To stand before, c needs a number greater than that of b; perhaps its number is not greater. Usual causes: the clock does not advance when changes arrive, or when one that was held back is applied; "
      'the replica\'s number is compared before the clock; ids are compared as text, so 10 comes before 9.|If the list is sorted by position identifiers, print those of c and b at line 6. If they do not rise in this order, look '
      'at how the identifier of c was made; if they do, at how identifiers are compared (numbers must not be compared as text).|If neither fits your editor: look at how the position that a user sees is mapped to a place '
      "in the editor's own list; and at whether the recorder writes the position that was asked for." + stop(6, "replica 1 inserts c")),
@@ -390,7 +388,7 @@ WORDS = [
     ("a change that a later one of its author overtook", 2, "0 ins a 0 : a|0 ins b 1 : a b|0 ins c 2 : a b c|1 recv 0 1|1 recv 0 3|1 read : a c|1 recv 0 2|"
      "1 read : a b c",
      "contents 1.1: this response lacks one element that replica 1 should have had by then.|Missing|"
-     "[b] inserted by 0.2 (line 4), which replica 1 should have had when 0.3, a later operation of its author, arrived in line 7 (1 recv 0 3)|"
+     "[b] inserted by 0.2 (line 4). Replica 1 should have had it since line 7 (1 recv 0 3): 0.3 is a later operation of its author|"
      "[b] 0.2's own receipt comes only in line 9 (1 recv 0 2). 0.3 overtook it in line 7: that is not causal order|[b] is never deleted|"
      "Look at the order in which operations arrive: 0.2 was overtaken, as told above. Your editor may be right, but it needs operations in causal order: apply an operation only after everything that its author had seen, or send all of that along with it. If the editor itself holds "
      f"operations back, write the receipt of each only when it is applied. {GUIDE} shows what to record in each case."
@@ -399,7 +397,7 @@ WORDS = [
      "1 read : a|1 recv 0 3|1 read : a c|1 recv 0 4|1 read : a c d",
      "[b] 0.2 has no receipt of its own at replica 1, though all other changes of replica 0 have one. 0.2 was lost, or 0.3 overtook it in line 9"),
     ("one receipt for several changes of an author", 2, "0 ins a 0 : a|0 ins b 1 : a b|0 ins c 2 : a b c|1 recv 0 3|1 read : a c",
-     "[b] inserted by 0.2 (line 4), which replica 1 should have had when 0.3, a later operation of its author, arrived in line 6 (1 recv 0 3)|"
+     "[b] inserted by 0.2 (line 4). Replica 1 should have had it since line 6 (1 recv 0 3): 0.3 is a later operation of its author|"
      "[b] was put behind a. When it arrived at replica 1 in line 6, a was still there|[b] is never deleted||Where to "
      "look|It looks as if 0.2 (line 4) was not applied at replica 1: lost, or held back, or `received` is called before the change is applied.|No "
      "receipt at replica 1 names 0.2 (line 4): it counts as arrived with 0.3, in line 6. If you record a receipt for each change, 0.2 was "
@@ -415,14 +413,14 @@ WORDS = [
     ("a delete that meets an insert and a delete which did not know each other", 2, "0 ins a 0 : a|0 ins b 1 : a b|0 ins c 2 : a b c|1 recv 0 3|"
      "1 read : a b c|0 del a : b c|1 ins d 3 : a b c d|0 recv 1 2|0 read : b c d|1 del c : a b d|0 recv 1 3|0 read : b c",
      "It looks as if 1.3 (line 12), applied at replica 0, deleted d instead of c: look at how a replica that applies a delete finds the element, and at whether the recorder "
-     "writes the name of the element that was really deleted.|If the editor sends positions, the position of 1.3 was perhaps not adjusted for the delete of a by 0.4 (line 8), which the author of 1.3 had not seen; or an insert that replica 0 received before was not adjusted for a delete that the insert's author had not seen." + stop(13, "replica 0 applies 1.3")),
+     "writes the name of the element that was really deleted.|If the editor sends positions, the position of 1.3 was perhaps not adjusted for the delete of a by 0.4 (line 8), which the author of 1.3 had not seen; or replica 0 did not adjust an insert that arrived earlier for a delete that the insert's author had not seen." + stop(13, "replica 0 applies 1.3")),
     ("a delete that takes what is deleted later", 2, "0 ins a 0 : a|0 ins b 1 : a b|1 recv 0 2|1 read : a b|1 del a : b|0 ins c 0 : c a b|0 recv 1 2|"
      "0 read : a b|0 del c : a b",
      "It looks as if 1.2 (line 7), applied at replica 0, deleted c instead of a: look at how a replica that applies a delete finds the element, and at whether the recorder "
      "writes the name of the element that was really deleted.|If the editor sends positions, the position of 1.2 was perhaps not adjusted for the insert of c by 0.3 (line 8), which the author of 1.2 had not seen." + stop(9, "replica 0 applies 1.2")),
     ("an insert that another one at its place has shifted", 2, "0 ins b 0 : b|0 ins c 0 : c b|1 ins a 0 : a|1 recv 0 1|1 read : a b|1 recv 0 2|"
      "1 read : a b c",
-     "When replica 0 inserted [c] (0.2, line 4), it had [b] already, and put [c] before it. That order must hold everywhere, but 1.3 (line 9) shows [c] behind [b]. Look at the message that replica 0 made for that insert, and at where replica 1 placed it in line 8. Often the clock that decides between inserts does not advance when changes arrive, or does not advance past the last element of a paste; or the neighbour is not found; or elements are stored in runs (blocks of several), and a run is split at a wrong offset. a was inserted at the same place as c concurrently: look also at which of the two comes first." + stop(8, "replica 1 applies 0.2", 6)),
+     "When replica 0 inserted [c] (0.2, line 4), it had [b] already, and put [c] before it. That order must hold everywhere, but 1.3 (line 9) shows [c] behind [b]. Look at the message that replica 0 made for that insert, and at where replica 1 placed it in line 8. Often the clock that decides between inserts does not advance when changes arrive, or does not advance past the number of the last pasted element; or the neighbour is not found; or elements are stored in runs (blocks of several), and a run is split at a wrong offset. a was inserted at the same place as c concurrently: look also at which of the two comes first." + stop(8, "replica 1 applies 0.2", 6)),
     ("a receipt that comes before the change is applied", 2, "0 ins a 0 : a|1 recv 0 1|1 read : a|0 ins b 1 : a b|0 del a : b|1 recv 0 3|1 read : a",
      "contents 1.2: this response lacks one element that replica 1 should have had by then, and has one element that should not be there.||"
      "Where to look|"
@@ -437,17 +435,17 @@ WORDS = [
      "Missing|[a] is never deleted||Where to look|"
      "Replica 1 showed a in 1.1 (line 5); since then it only received the insert of b by 0.2 (line 6), and nothing that came deletes a. Look at what 0.2 does there: "
      "does an arriving state replace the replica's own, or does the editor take back its own changes when others' arrive?|"
-     "If that is not the cause: check two things, one after the other. Recorder: `received` must be called right after the change is applied. "
+     "If that is not the cause: check two things, in this order. Recorder: `received` must be called right after the change is applied. "
      f"Editor: does it lose a change, apply it twice, or apply it to another element? {GUIDE} says where the calls "
      "go." + stop(7, "replica 1 applies 0.2")),
     ("an element that no line inserts", 1, "0 ins a 0 : a|0 read : a x",
      "[x] no operation of this trace inserts it||Where to look|No line inserts x. Perhaps the insert was not recorded, or under another name; or the document was not empty at first: "
-     "then let one replica insert what was there, and the others receive it.|If that is not the cause: check two things, one after the other. Recorder: `received` must be "
+     "then let one replica insert what was there, and the others receive it.|If that is not the cause: check two things, in this order. Recorder: `received` must be "
      f"called right after the change is applied. Editor: does it lose a change, apply it twice, or apply it "
      f"to another element? {GUIDE} says where the calls go." + stop(4, "replica 0 reads the list")),
     ("a deleted element settles the order of two others", 3, "0 ins x 0 : x|1 recv 0 1|2 recv 0 1|1 ins a 0 : a x|2 ins b 1 : x b|0 del x :|1 recv 0 2|1 recv 2 1|1 read : a b|"
      "0 recv 1 1|0 recv 2 1|0 read : b a", "refused 2: two responses can't be right together.||Where to look|"
-     "Look at where a replica places an incoming insert beside a deleted element: [a] was put before [x] (1.1, line 6), and [b] behind it (2.1, line 7), so [x] settles their order, also where it is deleted; yet 0.3 (line 14) shows them the other way round. This is not for the rule on concurrent inserts to decide.|"),
+     "Look at where a replica places an incoming insert beside a deleted element: [a] was put before [x] (1.1, line 6), and [b] behind it (2.1, line 7), so [x] settles their order, also where it is deleted; yet 0.3 (line 14) shows them the other way round. The rule for concurrent inserts must not decide this.|"),
     ("a replica turns round what it inserted itself", 2, "0 ins x 0 : x|1 recv 0 1|1 ins b 1 : x b|1 ins a 0 : a x b|0 del x :|1 recv 0 2|1 read : b a", "Where to look|"
      "Replica 1 itself changed the order of elements that it had shown: a before b in 1.2 (line 6), b before a in 1.3 (line 9). Between the two it received the delete of x by 0.2 (line 7). "
      "Look at what decides which of b and a comes first: once both are inserted, their order must never change, whatever is inserted, deleted or received later.|"
@@ -455,13 +453,13 @@ WORDS = [
      "If the list is sorted by position identifiers, print those of a, x and b at line 6. If they do not rise in this order, look at how the identifier of a was made; if they do, at how "
      "identifiers are compared (numbers must not be compared as text)." + stop(8, "replica 1 applies 0.2")),
     ("a number that does not grow at one replica", 1, "0 ins b 0 : b|0 ins a 0 : b a", "Where to look|"
-     "If the editor decides by numbers (a clock, ids) which of two inserts at one place comes first, look at theirs: a stands behind b, which replica 0 had already. To stand before, a needs a number greater than that of b; perhaps it has none. Usual causes: the clock does not advance with each insert; ids are compared as text, so 10 comes before 9.|"),
+     "If the editor decides by numbers (a clock, ids) which of two inserts at one place comes first, look at theirs: a stands behind b, which replica 0 had already. To stand before, a needs a number greater than that of b; perhaps its number is not greater. Usual causes: the clock does not advance with each insert; ids are compared as text, so 10 comes before 9.|"),
     ("an own deleted element that comes back, and a list that heals", 2, "0 ins a 0 : a|1 ins r 0 : r|1 del r :|1 recv 0 1|1 read : r|1 read : a", "Where to look|"
-     "When the insert of a by 0.1 (line 3) came in line 6, r came back, which replica 1 had deleted itself by 1.2 (line 5), and a is not there: perhaps that delete now hits a instead. Look at how the replica's own changes that are still on their way are adjusted for an arriving change, and that for them (each for the other as it was before). If the editor takes its own changes back and applies them again, look at how.|"),
+     "When the insert of a by 0.1 (line 3) came in line 6, r came back, which replica 1 had deleted itself by 1.2 (line 5), and a is not there: perhaps that delete now hits a instead. Look at how the replica's own changes that are still on their way are adjusted for an arriving change, and how that is adjusted for them (each for the unadjusted form of the other). If the editor takes its own changes back and applies them again, look at how it does that.|"),
     ("a wrong list that heals", 2, "0 ins a 0 : a|1 recv 0 1|1 read :|1 read : a", "Later replica 1 reads another list in 1.2 (line 6) than in 1.1 (line 5), though it received and changed nothing "
      "between. Something that is not recorded did that: with a server, perhaps its acknowledgement of the replica's own change. Then server and replica adjust one change differently: look at which changes each of them adjusts it for. Client and server must adjust in the same way, and each change only once.|"),
     ("an insert beside a deleted element, at a wrong position", 2, "0 ins a 0 : a|0 ins b 1 : a b|1 recv 0 2|1 read : a b|1 del a : b|1 ins c 0 : b c", "found at: position 1||Where to look|"
-     "b was put behind a (0.2 (line 4)), which is deleted at replica 1 by now: so c belongs beside a deleted element. Look at how an insert finds its place there; in a tree of elements, "
+     "b was put behind a (0.2 (line 4)), and that is deleted at replica 1 by now: so c was inserted beside a deleted element. Look at how an insert finds its place there; in a tree of elements, "
      "at how the children of a deleted one are shown: all its left children must come before all its right ones.|"),
     ("a wrong response before the one that the program names", 2, "1 ins a 0 : a|1 read :|0 recv 1 1|0 read : a|0 read :|1 read : a",
      "contents 1.2: this response lacks one element that replica 1 should have had by then. This fault comes first, in lines 1 to 4: start with it. The whole trace has "
@@ -469,12 +467,12 @@ WORDS = [
      "line 4 of the trace, 1.2: replica 1 read the list. Up to line 3 the session is accepted; line 4 makes it `contents 1.2`|"
      "the first 4 lines are enough to show it (`head -4`)||The response|line 4 of the trace, 1.2: replica 1 read the list|answered: (nothing)|"
      "[a] inserted by 1.1 (line 3), an earlier operation of replica 1|[a] is never deleted||Where to look|"
-     "Replica 1's answer in 1.1 (line 3) is right, and it has received nothing since. Look at what replica 1 does between that and this response; if there is a server, at what its acknowledgement of the replica's own change does there." + stop(4, "replica 1 reads the list")
+     "Replica 1's answer in 1.1 (line 3) is right, and it has received nothing since. Look at what replica 1 does between that answer and this one; if there is a server, also at what its acknowledgement of the replica's own change does." + stop(4, "replica 1 reads the list")
      + "||What the verdict on the whole trace is about|line 7, 0.2: replica 0 read the list, answered (nothing): this response lacks one element that replica 0 should have had "
      "by then|it lacks a||The list specifications|for the whole trace: strong and weak fail"),
     ("a delete that meets an insert which did not know it", 2, "0 ins a 0 : a|0 ins b 1 : a b|0 ins c 2 : a b c|1 recv 0 3|1 read : a b c|1 del a : b c|"
      "0 ins d 2 : a b d c|1 recv 0 4|1 read : b c d",
-     "When replica 0 inserted [d] (0.4, line 9), it had [c] already, and put [d] before it. That order must hold everywhere, but 1.3 (line 11) shows [d] behind [c]. Look at the message that replica 0 made for that insert, and at where replica 1 placed it in line 10. Often the clock that decides between inserts does not advance when changes arrive, or does not advance past the last element of a paste; or the neighbour is not found; or elements are stored in runs (blocks of several), and a run is split at a wrong offset (deleted elements count in it too).|If the editor "
+     "When replica 0 inserted [d] (0.4, line 9), it had [c] already, and put [d] before it. That order must hold everywhere, but 1.3 (line 11) shows [d] behind [c]. Look at the message that replica 0 made for that insert, and at where replica 1 placed it in line 10. Often the clock that decides between inserts does not advance when changes arrive, or does not advance past the number of the last pasted element; or the neighbour is not found; or elements are stored in runs (blocks of several), and a run is split at a wrong offset (the offset must count deleted elements too).|If the editor "
      "sends positions, the position of d was perhaps not adjusted for the delete of a by 1.2 (line 8), which replica 1 knew and the author of d did not." + stop(10, "replica 1 applies 0.4", 6)),
     ("a delete that becomes nothing beside an insert that its author did not know", 2, "0 ins a 0 : a|1 recv 0 1|1 read : a|0 del a :|"
      "1 ins b 0 : b a|1 recv 0 2|1 read : b a",
@@ -744,32 +742,33 @@ PLACES = [
 # A session whose end `delivered` wrote, in lines 9 to 11: replica 1 never applied 0.2 and 0.3, and shows nothing wrong before.
 UNDELIVERED = "0 ins a 0 : a|1 recv 0 1|1 read : a|0 ins b 1 : a b|0 del a : b|0 read : b|0 read : b|1 recv 0 3|1 read : a"
 UNDELIVERED_WORDS = """Missing
-[b] inserted by 0.2 (line 6), which replica 1 should have had when 0.3, a later operation of its author, arrived in line 10 (1 recv 0 3), a line that `delivered` wrote
+[b] inserted by 0.2 (line 6). Replica 1 should have had it since line 10 (1 recv 0 3, which `delivered` wrote): 0.3 is a later operation of its author
 [b] is never deleted
 
 Extra
 [a] inserted by 0.1 (line 3), which arrived at replica 1 in line 4 (1 recv 0 1)
-[a] deleted by 0.3 (line 7), which arrived at replica 1 in line 10 (1 recv 0 3), a line that `delivered` wrote
+[a] deleted by 0.3 (line 7), which arrived at replica 1 in line 10 (1 recv 0 3, which `delivered` wrote)
 
 Where to look
 Only `delivered` (line 10) says that 0.2 (line 6) arrived at replica 1; no response before shows it. It was lost, or is held back for ever (\
 0.3 (line 7), made later, perhaps waits for it); or `delivered` was called too early. Look at what keeps changes waiting.
 
 In a debugger
-stop before line 6 of the trace, where replica 0 inserts b, and follow 0.2 to replica 1. In Python, put this right before the call that makes the editor apply a change, local or remote; it stops when 5 lines have been recorded: \
+stop before line 6 of the trace, where replica 0 inserts b, and follow 0.2 to replica 1.
+In Python, put the next line right before the call that makes the editor apply a change, local or remote. It stops when 5 lines have been recorded.
 if recording.lines() == 5: breakpoint()
 
 The list specifications
 """
 STATEMENTS = [
-    ("", "In Python, put this {}; it stops when 6 lines have been recorded: if recording.lines() == 6: breakpoint()"),
-    ("language python\n", "In Python, put this {}; it stops when 6 lines have been recorded: if recording.lines() == 6: breakpoint()"),
-    ("language javascript\n", "In JavaScript, put this {}; it stops when 6 lines have been recorded: if (recording.lines() === 6) debugger"),
-    ("language rust\n", 'In Rust, put this {}; it stops when 6 lines have been recorded: if recording.lines() == 6 {{ eprintln!("here") }} (on three lines, and set a breakpoint on the middle one)'),
-    ("language c\n", "In C, put this {}; it stops when 6 lines have been recorded: if (domepeeler_lines(recording) == 6) raise(SIGTRAP);"),
-    ("language emacs-lisp\n", "In Emacs Lisp, put this {}; it stops when 6 lines have been recorded: (when (= (domepeeler-lines recording) 6) (debug))"),
-    ("language cobol\n", "In Python, put this {}; it stops when 6 lines have been recorded: if recording.lines() == 6: breakpoint()"),
-    ("language rust\nlanguage c\n", 'In Rust, put this {}; it stops when 6 lines have been recorded: if recording.lines() == 6 {{ eprintln!("here") }} (on three lines, and set a breakpoint on the middle one)'),
+    ("", "In Python, put the next line {}. It stops when 6 lines have been recorded.\n    if recording.lines() == 6: breakpoint()"),
+    ("language python\n", "In Python, put the next line {}. It stops when 6 lines have been recorded.\n    if recording.lines() == 6: breakpoint()"),
+    ("language javascript\n", "In JavaScript, put the next line {}. It stops when 6 lines have been recorded.\n    if (recording.lines() === 6) debugger"),
+    ("language rust\n", 'In Rust, put the next line {}. It stops when 6 lines have been recorded.\n    if recording.lines() == 6 {{ eprintln!("here") }} (on three lines, and set a breakpoint on the middle one)'),
+    ("language c\n", "In C, put the next line {}. It stops when 6 lines have been recorded.\n    if (domepeeler_lines(recording) == 6) raise(SIGTRAP);"),
+    ("language emacs-lisp\n", "In Emacs Lisp, put the next line {}. It stops when 6 lines have been recorded.\n    (when (= (domepeeler-lines recording) 6) (debug))"),
+    ("language cobol\n", "In Python, put the next line {}. It stops when 6 lines have been recorded.\n    if recording.lines() == 6: breakpoint()"),
+    ("language rust\nlanguage c\n", 'In Rust, put the next line {}. It stops when 6 lines have been recorded.\n    if recording.lines() == 6 {{ eprintln!("here") }} (on three lines, and set a breakpoint on the middle one)'),
 ]
 # By language the statement before the second of two receipts, in lines 5 and 6, that stand together.
 FOR_TWO = {
@@ -1203,15 +1202,15 @@ def places(tally: Tally, program: str, folder: str) -> None:
     for beside, wanted in STATEMENTS:
         side.write_text(f"7\n{beside}")
         got = explain(program, [str(path)]).out.decode()
-        tally.check(f"a debugger: {beside}", paragraph(got, "In a debugger").endswith(f"reads the list; if nothing is wrong there, stop at an arrival (line 4). {wanted.format(WHERE)}"), got)
+        tally.check(f"a debugger: {beside}", paragraph(got, "In a debugger").endswith(f"reads the list; if nothing is wrong there, stop at an arrival (line 4).\n  {wanted.format(WHERE)}"), got)
         name = beside.partition("\n")[0].removeprefix("language ")
         if name not in ("", "cobol"):
             got = explain(program, ["--language", name, "-"], path.read_bytes()).out.decode()
-            tally.check(f"a debugger: {name}, asked for", paragraph(got, "In a debugger").endswith(f"reads the list; if nothing is wrong there, stop at an arrival (line 4). {wanted.format(WHERE)}"), got)
+            tally.check(f"a debugger: {name}, asked for", paragraph(got, "In a debugger").endswith(f"reads the list; if nothing is wrong there, stop at an arrival (line 4).\n  {wanted.format(WHERE)}"), got)
     for name, wanted in FOR_TWO.items():
         got = explain(program, ["--language", name, "-"], text_of(2, "0 ins a 0 : a|0 ins b 1 : a b|1 recv 0 1|1 recv 0 2|1 read : a").encode()).out.decode()
         tally.check(f"a debugger: {name}, receipts that stand together", paragraph(got, "In a debugger").endswith(
-            f"; it stops when 5 lines have been recorded, or 4 if one call of the recorder wrote lines 5 to 6: {wanted}"), got)
+            f". It stops when 5 lines have been recorded, and at 4 in case one call of the recorder wrote lines 5 to 6.\n    {wanted}"), got)
     undelivered(tally, program, folder)
     path.write_text(text_of(2, PLACED))
     for beside, wanted in NOTES:
@@ -1700,7 +1699,7 @@ def kinds(tally: Tally, program: str, folder: str) -> None:
     tally.check("kinds: of many", many.returncode == 1 and "rint both identifiers" in explained_there and "If the list is sorted" not in explained_there
                 and json.loads(many.stdout)["causes"] == ["concurrent", "identifiers"], (many, explained_there))
     turned = str(ROOT / "examples" / "prosemirror_text_changes_places.trace")
-    own = "the replica's own changes that are still on their way are adjusted for an arriving change, and that for them (each for the other as it was before). If the editor takes its own changes back and applies them again, look at how."
+    own = "the replica's own changes that are still on their way are adjusted for an arriving change, and how that is adjusted for them (each for the unadjusted form of the other). If the editor takes its own changes back and applies them again, look at how it does that."
     of_turned = {"": "(rebasing), look at where that puts them.", "neighbours": "once both are inserted, their order must never change", "positions": f"Look at how {own}",
                  "identifiers": "Print the position identifiers of a, x and b at line 7."}
     for kind, wanted in of_turned.items():
@@ -1744,31 +1743,31 @@ def kinds(tally: Tally, program: str, folder: str) -> None:
 FIRST_TOLD = {
     "own changes on their way": ("positions", 3, "0 ins a 0 : a|1 recv 0 1|2 recv 0 1|1 read : a|2 read : a|1 ins b 1 : a b|1 del a : b|0 ins c 1 : a c|2 recv 0 2|2 read : a c|1 recv 0 2|1 read : b",
         "When 0.2 came in line 13, replica 1 had changes of its own on their way, which the author of 0.2 had not seen: the insert of b by 1.2 (line 8) and the delete of a by 1.3 (line 9). Replica 2 "
-        "received 0.2 too, and shows c in 2.2 (line 12). So perhaps c was inserted rightly, and then removed by one of these deletes. Look at how the replica's own changes that are still on their way are adjusted for an arriving change, and that for them (each for the other as it was before). If the editor takes its own changes back and applies them again, look at how."),
+        "received 0.2 too, and shows c in 2.2 (line 12). So perhaps c was inserted rightly, and then removed by the delete of a. Look at how the replica's own changes that are still on their way are adjusted for an arriving change, and how that is adjusted for them (each for the unadjusted form of the other). If the editor takes its own changes back and applies them again, look at how it does that."),
     "a delete on its way that meets the same": ("positions", 2, "0 ins a 0 : a|0 ins b 1 : a b|1 recv 0 2|1 read : a b|1 del a : b|0 del a : b|0 ins c 1 : b c|1 recv 0 4|1 read : b",
         "When 0.4 came in line 10, replica 1 had changes of its own on their way, which the author of 0.4 had not seen: the delete of a by 1.2 (line 7). So perhaps c was inserted rightly, and then removed "
-        "by this delete, perhaps that of a, which 0.3 (line 8) deletes too. Look at"),
+        "by the delete of a, since 0.3 (line 8) deletes a too. Look at"),
     "own changes that are gone": ("identifiers", 2, "0 ins a 0 : a|0 ins b 1 : a b|0 del a : b|0 read : a",
-        "Replica 0 showed its own changes in 0.3 (line 5), and shows them no more: the insert of b by 0.2 (line 4) and the delete of a by 0.3 (line 5). No other replica shows that it has them. Was its list replaced by a state from elsewhere that lacks them, or were they taken back and not applied again? Look also at the store of unconfirmed own changes, and at when they are removed from it."),
+        "Replica 0 showed its own changes in 0.3 (line 5), and shows them no more: the insert of b by 0.2 (line 4) and the delete of a by 0.3 (line 5). No other replica shows that it has them. Was the replica's list replaced by a state from elsewhere that lacks them, or were they taken back and not applied again? Look also at the store of unconfirmed own changes, and at when they are removed from it."),
     "own changes that others have, gone when something came": ("", 2, "0 ins a 0 : a|0 ins b 1 : a b|1 recv 0 2|1 read : a b|1 ins c 2 : a b c|0 recv 1 2|0 read : c",
         "Replica 0 showed its own changes in 0.2 (line 4), and shows them no more: the insert of a by 0.1 (line 3) and the insert of b by 0.2 (line 4). Since then it received the insert of c by 1.2 "
-        "(line 7). Was its list replaced by a state from elsewhere"),
+        "(line 7). Was the replica's list replaced by a state from elsewhere"),
     "a place from before what came": ("neighbours", 2, "0 ins a 0 : a|0 ins b 1 : a b|0 ins c 2 : a b c|0 ins d 3 : a b c d|1 recv 0 4|1 del a : b c d|0 recv 1 1|0 ins e 2 : b e c d",
-        "[e] stands where position 2 was in 0.4 (line 6): since then replica 0 received the delete of a by 1.1 (line 8). Does the editor keep something from before that, such as a place, an offset, an "
-        "index or a copy of the list? Then every kind of change that arrives must update it."),
+        "[e] stands at the place that was position 2 in 0.4 (line 6). Since then replica 0 received the delete of a by 1.1 (line 8). Does the editor still use something from before that (a place, an offset, an index, a copy of the list)? Then every kind of change that arrives must update it."),
     "an order that a delete hides": ("neighbours", 3, "0 ins n 0 : n|1 ins o 0 : o|2 recv 0 1|2 recv 1 1|2 read : n o|2 ins l 1 : n l o|0 del n :|0 recv 1 1|0 read : o|0 recv 2 2|0 read : o l",
-        "[l] was put directly behind n (0.1 (line 3)), and n and [o] were inserted at the front without knowing of each other. n is deleted at replica 0, which never showed the two together: perhaps it keeps them in another order than replica 2, and [l] follows n there. So look first at the order of the concurrent inserts n and [o]: at what is done in line 5, line 6 and line 10."),
+        "[l] was put directly behind n (0.1 (line 3)), and n and [o] were inserted at the front without knowing of each other. n is deleted at replica 0, which never showed n and [o] together: perhaps it keeps these in another order than replica 2, and [l] follows n there. So look first at the order of the concurrent inserts n and [o]: at what is done in line 5, line 6 and line 10."),
     "one replica alone in its order": ("positions", 3, "2 ins a 0 : a|2 ins b 0 : b a|1 ins c 0 : c|2 recv 1 1|2 read : b c a|0 recv 1 1|0 recv 2 1|0 read : a c|1 recv 2 1|1 read : a c",
-        "Replicas 0 and 1 show a before c. Replica 2 alone shows them the other way round, first in 2.3 (line 7): so look first at what it did in line 6, when 1.1 came. It had two changes of its own on "
-        "their way then: the insert of a by 2.1 (line 3) and the insert of b by 2.2 (line 4). The incoming change must be adjusted for the first of these, the result for the second, and so on. At each step that own change must be adjusted too, for the incoming change as it was before the step. The same holds for changes in a buffer."),
+        "Replicas 0 and 1 show a before c. Replica 2 alone shows them the other way round, first in 2.3 (line 7): so look first at what it did in line 6, when 1.1 came. When 1.1 arrived, replica 2 had two changes of its own on "
+        "their way: the insert of a by 2.1 (line 3) and the insert of b by 2.2 (line 4). 1.1 must be adjusted for the first of these, the result for the second, and so on. At each step also adjust the own "
+        "change of that step, for 1.1 as it was before the step. The same holds for changes in a buffer."),
     "one replica alone, with one change on its way": ("positions", 3, "2 ins a 0 : a|1 ins c 0 : c|2 recv 1 1|2 read : c a|0 recv 1 1|0 recv 2 1|0 read : a c|1 recv 2 1|1 read : a c",
-        "Replicas 0 and 1 show a before c. Replica 2 alone shows them the other way round, first in 2.2 (line 6): so look first at what it did in line 5, when 1.1 came. It had one change of its own on its way then, the insert of a by 2.1 (line 3): this and 1.1 must each be adjusted for the other."),
+        "Replicas 0 and 1 show a before c. Replica 2 alone shows them the other way round, first in 2.2 (line 6): so look first at what it did in line 5, when 1.1 came. When 1.1 arrived, replica 2 had one change of its own on its way, the insert of a by 2.1 (line 3): this and 1.1 must each be adjusted for the other."),
     "a delete that hits what came with it": ("positions", 2, "0 ins a 0 : a|0 ins b 1 : a b|0 del b : a|1 recv 0 3|1 read : b",
         "It looks as if 0.3 (line 5), applied at replica 1, deleted a instead of b"),
     "an insert into a deleted range": ("positions", 3, "2 ins a 0 : a|2 ins b 1 : a b|1 recv 2 2|1 read : a b|2 ins c 2 : a b c|2 ins e 1 : a e b c|2 del b : a e c|2 del c : a e|1 ins d 2 : a b d|"
         "2 recv 1 2|2 read : a d e|1 recv 2 4|1 read : a e b d c",
-        "[d] belongs between b and c, and both had been deleted, one directly after the other, by 2.5 (line 9) and 2.6 (line 10), when it came to replica 2 in line 12: it may be an insert into the middle "
-        "of a deleted range. Look at how such an insert is adjusted: it goes to where the range began, no further to the left. Look also at how the delete of a range is adjusted for it."),
+        "When [d] arrived at replica 2 in line 12, both its neighbours, b and c, had been deleted there, one directly after the other, by 2.5 (line 9) and 2.6 (line 10): it may be an insert into the middle "
+        "of a deleted range. Look at how such an insert is adjusted: it must go to where the range began, no further to the left. Look also at how the delete of a range is adjusted for it."),
     "a third replica that has applied it": ("neighbours", 3, "0 ins a 0 : a|1 recv 0 1|1 read : a|2 recv 0 1|2 read :",
         "It looks as if 0.1 (line 3) was not applied at replica 2: lost, or held back, or `received` is called before the change is applied. Replica 1 has applied 0.1, as 1.1 (line 5) shows: so look at "
         "replica 2.\n"),
@@ -1776,13 +1775,13 @@ FIRST_TOLD = {
         "It looks as if 0.1 (line 3) was not applied at replica 1: lost, or held back, or `received` is called before the change is applied. Replica 2 has not applied 0.1 either, as 2.1 (line 7) shows: so "
         "look first at what is sent.\n"),
     "a change that is shown later, with nothing between": ("neighbours", 2, "0 ins a 0 : a|1 recv 0 1|1 read :|1 ins b 0 : b a",
-        "It looks as if 0.1 (line 3) was not applied at replica 1: lost, or held back, or `received` is called before the change is applied. It is shown from 1.2 (line 6) on, though nothing else came "
-        "between: so it had come, and what was shown is out of date. Is each list that is kept for showing, such as a cache, made anew after every change, remote ones too?\n"),
+        "It looks as if 0.1 (line 3) was not applied at replica 1: lost, or held back, or `received` is called before the change is applied. But 1.2 (line 6) shows it, though nothing was received in "
+        "between: so it had arrived, and the list shown before was out of date. Is each list that is kept for showing, such as a cache, made anew after every change, remote ones too?\n"),
     "a change that is shown later, behind another": ("neighbours", 2, "0 ins a 0 : a|1 recv 0 1|1 read :|0 ins b 1 : a b|1 recv 0 2|1 read : a b",
-        "It looks as if 0.1 (line 3) was not applied at replica 1: lost, or held back, or `received` is called before the change is applied. It is shown from 1.2 (line 8) on, behind what came in line 7: "
+        "It looks as if 0.1 (line 3) was not applied at replica 1: lost, or held back, or `received` is called before the change is applied. 1.2 (line 8) shows it, after the arrival in line 7: "
         "perhaps it was held back until then, or its receipt was written too early.\n"),
     "a delete that may have come before its element": ("tree", 2, "0 ins a 0 : a|0 del a :|1 recv 0 1|1 recv 0 2|1 read : a",
-        "It looks as if 0.2 (line 4) was not applied at replica 1: lost, or held back, or `received` is called before the change is applied. If it arrived before the insert of a, look at where deletes wait whose element has not arrived yet: a second one must not overwrite the first, and each must be tried again when its element arrives.\n"),
+        "It looks as if 0.2 (line 4) was not applied at replica 1: lost, or held back, or `received` is called before the change is applied. If it arrived before the insert of a, look at the place where deletes wait until their element arrives: a second one must not overwrite the first, and each must be tried again then.\n"),
     "identifiers where an author is alone": ("identifiers", 2, f"{BESIDE_DELETED}|0 recv 1 2|0 read : c d", "Print the position identifiers of"),
 }
 
@@ -1814,20 +1813,20 @@ def first_told(tally: Tally, program: str, folder: str) -> None:
     path.write_text(text_of(3, "0 ins a 0 : a|0 ins b 1 : a b|1 recv 0 2|2 recv 0 2|1 read : a b|2 read : a b|0 del a : b|1 recv 0 3|1 read : a|2 recv 0 3|2 read : a"))
     for kind, server in ("positions", ", and at what the server (if it adjusts positions) makes of that"), ("neighbours", ""):
         told = explain(program, ["--editor", kind, str(path)]).out.decode()
-        tally.check(f"first told: {kind}: a delete that is wrong at two replicas", f"Replica 2 lacks b too, in 2.2 (line 13): so don't begin at replica 1. Look first at what is sent{server}." in told, told)
-    own = "Replica 1 had two changes of its own on their way then: the insert of b by 1.2 (line 6) and the delete of a by 1.3 (line 7). The incoming change must be adjusted for the first of these, the result for the second, and so on. At each step"
+        tally.check(f"first told: {kind}: a delete that is wrong at two replicas", f"Replica 2 lacks b too, in 2.2 (line 13): so look first at what is sent{server}, and only then at replica 1. It looks as if" in told, told)
+    own = "When 0.2 arrived, replica 1 had two changes of its own on their way: the insert of b by 1.2 (line 6) and the delete of a by 1.3 (line 7). 0.2 must be adjusted for the first of these, the result for the second, and so on. At each step also adjust"
     twice = "0 ins a 0 : a|1 recv 0 1|1 read : a|1 ins b 1 : a b|1 del a : b|0 del a :|1 recv 0 2|1 read :"
     for name, entries, lacks in ("alone", "", False), ("and a third that has got its delete", "|2 recv 1 3|2 recv 0 2|2 read :", False), ("and a third that hasn't", "|2 recv 1 2|2 recv 0 2|2 read :", True):
         path.write_text(text_of(3, twice + entries))
         told = explain(program, ["--editor", "positions", str(path)]).out.decode()
         tally.check(f"first told: a delete that meets own ones, {name}", "It looks as if 0.2 (line 8), applied at replica 1, deleted b." in told and (own in told) == (not lacks) and (
-            "Replica 2 lacks b too, in 2.1 (line 13): so don't begin at replica 1. Look first at what is sent" in told) == lacks, told)
+            "Replica 2 lacks b too, in 2.1 (line 13): so look first at what is sent" in told) == lacks, told)
     path.write_text(text_of(3, "0 ins a 0 : a|0 ins b 1 : a b|1 recv 0 2|2 recv 0 2|2 read : a b|1 read : a b|0 del a : b|2 recv 0 3|2 read : a|1 ins c 2 : a b c|1 recv 0 3|1 read : a c"))
     for kind in "positions", "neighbours":
         told = explain(program, ["--editor", kind, str(path)]).out.decode()
         tally.check(f"first told: {kind}: a delete that is wrong at the server too", (
             "Replica 1 lacks b too, in 1.3 (line 14): so look first at what is sent, and then at replica 2, which changes nothing itself. If that is the server, look at how" in told) == (
-                kind == "positions") and "don't begin at replica 2" not in told or kind == "neighbours", told)
+                kind == "positions") and "and only then at replica 2" not in told or kind == "neighbours", told)
     counted_twice = "Before that, a was deleted at replica 0 more than once: by 0.4 (line 9), and by 1.2, which came in line 10. If the editor counts how many elements it shows"
     begun = "0 ins a 0 : a|0 ins b 1 : a b|0 ins c 2 : a b c|1 recv 0 3|1 read : a b c|1 del a : b c|0 del a : b c|0 recv 1 2|0 read : b c"
     for kind in "", "tree", "positions":
@@ -1855,8 +1854,8 @@ def first_told(tally: Tally, program: str, folder: str) -> None:
         for kind in "", "neighbours", "positions":
             told = explain(program, [*(["--editor", kind] if kind else []), str(path)]).out.decode()
             tally.check(f"first told: {kind}: what another had deleted came back, by {what}", (words in told) == (kind != "positions") and (
-                f"since then it received 2.{2 + (what == 'several')} (line {line})\n  that brought: {brought}\n") in told, told)
-    rivals = "b and a were inserted into one gap without knowing of each other. Which of them comes first must be decided by a rule that never ties (such as the replicas' numbers, not letters)"
+                f"since then it received 2.{2 + (what == 'several')} (line {line})\n  that should have brought: {brought}\n") in told, told)
+    rivals = "b and a were inserted into one gap without knowing of each other. Which of them comes first must be decided by a rule that never ties (such as comparing the replicas' numbers, not the letters)"
     for what, entries, is_rival in (
             ("into nothing", "0 ins a 0 : a|1 ins b 0 : b|0 del a :|1 recv 0 1|1 read : b a|1 recv 0 2|1 read : a", True),
             ("beside what the other had not", "0 ins x 0 : x|0 ins a 1 : x a|1 ins c 0 : c|1 ins b 0 : b c|0 del a : x|1 recv 0 2|1 read : x b a c|1 recv 0 3|1 read : x a c", True),
@@ -1911,7 +1910,7 @@ def first_told(tally: Tally, program: str, folder: str) -> None:
             tally.check(f"first told: {kind}: what came among others, {name}", (among in told) == (kind == "neighbours" and name != "read between"), told)
     path.write_text(text_of(2, "0 ins a 0 : a|0 del a :|1 recv 0 1|1 recv 0 2|1 read : a|1 del a :|1 read :"))
     told = explain(program, [str(path)]).out.decode()
-    tally.check("first told: nothing of what another delete did", "0.2 (line 4) was not applied at replica 1" in told and "It is shown from" not in told, told)
+    tally.check("first told: nothing of what another delete did", "0.2 (line 4) was not applied at replica 1" in told and "shows it, " not in told, told)
     both = "0 ins a 0 : a|0 ins b 1 : a b|1 recv 0 2|1 read : a b|0 del a : b|1 del a : b|1 recv 0 3|1 read : b|0 recv 1 2|0 ins c 1 : b c|1 recv 0 4|1 read : b"
     for kind in "positions", "neighbours":
         path.write_text(text_of(2, both))
@@ -2441,7 +2440,7 @@ def small(tally: Tally, program: str, folder: str) -> None:
             elif alone:
                 at, receipt, arrived = int(alone[1]), int(alone[2]), {line for line, *_ in stops}
                 stop_lines = [at, *([receipt] if receipt not in arrived else []), *sorted(arrived - {at}, reverse=True)]
-            stopped = paragraph(said, "In a debugger").partition(" In Python,")[0]
+            stopped = paragraph(said, "In a debugger").partition("\n  In Python,")[0]
             tally.check("refused: where to stop a debugger", [int(line) for line in re.findall(r"\bline (\d+)", stopped)] == stop_lines,
                         f"{whole}{stops}\n{got}")
             arriving[len(stops)] += 1

@@ -21,14 +21,14 @@ OTHERS_HAVE = "all other changes of replica {author} have one"
 ELSEWHERE_ONE = {True: "at another replica it has one", False: "at other replicas they have some"}
 PUT_AT_ONCE = {True: " {others} was inserted at the same place as {element} concurrently: look also at which of the two comes first.",
                False: " {others} were inserted at the same place as {element} concurrently: look also at whether {element} comes before or behind each of them."}
-OWN_ADJUSTED = ("how the replica's own changes that are still on their way are adjusted for an arriving change, and that for them (each for the other as it was before). If the editor takes its own "
-                "changes back and applies them again, look at how.")
+OWN_ADJUSTED = ("how the replica's own changes that are still on their way are adjusted for an arriving change, and how that is adjusted for them (each for the unadjusted form of the other). If "
+                "the editor takes its own changes back and applies them again, look at how it does that.")
 EMPTIED = ("Before that, in line {line}, replica {replica} received {change}, which deletes {element}, though it had deleted {element} itself, by {other}. At each side the other side's delete then "
            "has nothing left to delete, but must still be counted as received (message numbers, acknowledgements). Else later changes are adjusted once too often, or too seldom.")
-NONE_ON_WAY = "{who} had no change of its own on its way then: so look at what the server (if it adjusts positions) made of {came}, and at what was sent before {came}."
-ONE_ON_WAY = "{who} had one change of its own on its way then, {own}: this and {came} must each be adjusted for the other."
-SEVERAL_ON_WAY = ("{who} had {count} changes of its own on their way then: {own}. The incoming change must be adjusted for the first of these, the result for the second, and so on. At each step "
-                  "that own change must be adjusted too, for the incoming change as it was before the step. The same holds for changes in a buffer.")
+NONE_ON_WAY = "When {came} arrived, replica {replica} had no change of its own on its way: so look at what the server (if it adjusts positions) made of {came}, and at what was sent before {came}."
+ONE_ON_WAY = "When {came} arrived, replica {replica} had one change of its own on its way, {own}: this and {came} must each be adjusted for the other."
+SEVERAL_ON_WAY = ("When {came} arrived, replica {replica} had {count} changes of its own on their way: {own}. {came} must be adjusted for the first of these, the result for the second, and so on. "
+                  "At each step also adjust the own change of that step, for {came} as it was before the step. The same holds for changes in a buffer.")
 DELETED_TWICE = ("Before that, {element} was deleted at replica {replica} more than once: by {other}, and by {change}, which came in line {line}. If the editor counts how many elements it shows (in blocks, or "
                  "below the nodes of a tree), it must subtract each only once. Else all later local positions are counted wrongly.")
 BY_ITSELF = "perhaps deleted elements are thrown away there, changes that were held back are applied, or a copy of the list that is shown is made anew."
@@ -129,13 +129,13 @@ def deleted_twice(evidence: Evidence) -> list:
     return [Cause("deleted twice", DELETED_TWICE.format(element=change.element, replica=replica, other=at(other), change=change.name, line=line)) for line, change, other in found[-1:]]
 
 
-def on_way_then(evidence: Evidence, receipt: Receipt, who: str) -> str:
+def on_way_then(evidence: Evidence, receipt: Receipt) -> str:
     """What a replica had on its way when something came, where changes carry positions; of one that changes nothing, as a server, nothing."""
     if may_be_server(evidence, receipt.replica):
         return ""
     own = evidence.on_their_way(receipt)
     told = SEVERAL_ON_WAY if own[1:] else ONE_ON_WAY if own else NONE_ON_WAY
-    return told.format(who=who, count=counted(len(own)), own=named(own), came=receipt.seen.name)
+    return told.format(replica=receipt.replica, count=counted(len(own)), own=named(own), came=receipt.seen.name)
 
 
 def may_be_server(evidence: Evidence, replica: int) -> bool:

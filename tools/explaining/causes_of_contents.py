@@ -9,10 +9,10 @@ from .programs import GUIDE
 from .recordings import Operation, Receipt
 from .telling import at, joined, listed
 
-ARRIVAL = ("Check {things}, one after the other. Recorder: `received` must be called right after the change is applied. {transport}"
+ARRIVAL = ("Check {things}, in this order. Recorder: `received` must be called right after the change is applied. {transport}"
            "Editor: does it lose a change, apply it twice, or apply it to another element? " f"{GUIDE} says where the calls go.")
 TRANSPORT = "Transport: a change must arrive after all those that its author had seen. "
-LOCAL = ("Nothing came between {before} and this, so look at the local {what} itself: what it takes from the list or puts there, and which ids it puts into the change that it sends.")
+LOCAL = ("The replica received nothing between {before} and this response, so look at the local {what} itself: at what it does to the list, and at which ids it puts into the change that it sends.")
 APPLIED_TWICE = ("It looks as if {changes} {were} applied twice at replica {replica}: look at what the editor does with a change that arrives a second "
                  "time{back}, and at whether a change that was held back is applied twice: on arrival and again later.")
 OWN_BACK = " (a server may send a replica its own changes back)"
@@ -24,20 +24,20 @@ NO_PLACE = (" Perhaps {insert} finds no place there for {element}: its neighbour
 NOT_APPLIED = ("It looks as if {changes} {were} not applied at replica {replica}: lost, or held back, or `received` is called before the "
                "change is applied.{later}{elsewhere}{other}")
 KEPT_BACK = (" Between {change} and its first arrival elsewhere (line {first}) replica {author} received {came}: so stop before line {line} too, and look at ")
-LACKED_ELSEWHERE = " Replica {other} lacks {missing} too, in {operation}: so don't begin at replica {replica}. Look first at what is sent{server}."
-LACKED_AT_SERVER = (" Replica {other} lacks {missing} too, in {operation}: so look first at what is sent, and then at replica {replica}, which changes nothing itself. If that is the server, look at how it "
-                    "adjusts a change for all that the author of the change had not seen.")
-LATER = {True: " It is shown from {operation} on, behind what came in line {line}: perhaps it was held back until then, or its receipt was written too early.",
-         False: " It is shown from {operation} on, though nothing else came between: so it had come, and what was shown is out of date. Is each list that is kept for showing, such as a cache, made "
+LACKED_ELSEWHERE = "Replica {other} lacks {missing} too, in {operation}: so look first at what is sent{server}, and only then at replica {replica}. "
+LACKED_AT_SERVER = ("Replica {other} lacks {missing} too, in {operation}: so look first at what is sent, and then at replica {replica}, which changes nothing itself. If that is the server, look at how it "
+                    "adjusts a change for all that the author of the change had not seen. ")
+LATER = {True: " {operation} shows it, after the arrival in line {line}: perhaps it was held back until then, or its receipt was written too early.",
+         False: " But {operation} shows it, though nothing was received in between: so it had arrived, and the list shown before was out of date. Is each list that is kept for showing, such as a cache, made "
                 "anew after every change, remote ones too?"}
 ELSEWHERE = {True: " Replica {other} has applied {change}, as {operation} shows: so look at replica {replica}.",
              False: " Replica {other} has not applied {change} either, as {operation} shows: so look first at what is sent{server}."}
 OTHER_DELETE = (" Or it deleted another element, one that was already deleted there: look at how a replica that applies a delete finds the element (is the "
                 "whole id compared?).")
-CAME_BEFORE = (" If it arrived before the insert of {elements}, look at where deletes wait whose element has not arrived yet: a second one must not overwrite the first, and each must be tried again when its element arrives.")
+CAME_BEFORE = (" If it arrived before the insert of {elements}, look at the place where deletes wait until their element arrives: a second one must not overwrite the first, and each must be tried again then.")
 WAITED_IN_PART = ("{first} {was} applied at replica {replica}, but not {then}, which {were} made right after that. If your editor sends all of these deletes as one change, it looks as if that was "
                   "applied in part: look at what a replica does where one of several elements is gone already, or has not come yet; and, if the change had to wait, at whether the editor checks "
-                  "again what is still lacking when one missing element arrives.")
+                  "what is still missing each time a missing element arrives.")
 IN_PART = ("{first} and {then} were made one after the other, and came to replica {replica} together; there {element} was deleted already, by {gone}, and {surplus} "
            "{is_} still shown. If your editor sends both deletes as one change, it looks as if that was applied in part: look at what a replica does where one of "
            "several elements is gone already; it must go on with the others.")
@@ -48,23 +48,24 @@ NO_RECEIPT = ("It looks as if {changes} {were} applied at replica {replica} with
 WRONG_DELETE = ("It looks as if {delete}, applied at replica {replica}, deleted {missing} instead of {surplus}: look at how a replica that applies a "
                 "delete finds the element, and at whether the recorder writes the name of the element that was really deleted.")
 WRONG_LOCAL_DELETE = ("It looks as if {delete} deleted {missing} instead of {surplus}: look at how a local delete finds the element, and at whether the recorder writes the name of the element that was really deleted.")
-RIVALS = (" {missing} and {element} were inserted into one gap without knowing of each other. Which of them comes first must be decided by a rule that never ties (such as the replicas' numbers, "
-          "not letters) and is the same on both sides; else the delete hits the other one.")
-WRONG_POSITION = ("It looks as if {delete}, applied at replica {replica}, deleted {missing} instead of {surplus}: look at how the position of {name} is adjusted there, also for the replica's own "
-                  "changes that the author of {name} had not seen; and at whether the recorder writes the name of the element that was really deleted.")
+RIVALS = (" {missing} and {element} were inserted into one gap without knowing of each other. Which of them comes first must be decided by a rule that never ties (such as comparing the replicas' "
+          "numbers, not the letters) and is the same on client and server; else the delete hits the other one.")
+WRONG_POSITION = ("It looks as if {delete}, applied at replica {replica}, deleted {missing} instead of {surplus}: look at how the position of {name} is adjusted there; and at whether the recorder "
+                  "writes the name of the element that was really deleted.")
 TIED = ("{one} and {two} were inserted at one place without knowing of each other, and are shown in two orders: {one} before {two} in {before}, {two} before {one} in {after}. "
-        "Look first at the order of concurrent inserts: it must be decided by a rule that never ties (such as the replicas' numbers, not letters). Where the order differs, a later change by position hits another element.")
+        "Look first at the order of concurrent inserts: it must be decided by a rule that never ties (such as comparing the replicas' numbers, not the letters). Where the order differs, a later "
+        "change by position hits another element.")
 MISNAMED = ("{deletes} delete{s} {named}; but {wrong}, while {missing}. Look at which ids a local delete puts into the change that it sends{several}.")
 NOT_SHOWN = "{element} does not stand in {before}{unknown}"
 SEVERAL_IDS = ": where it deletes several, each element has an id of its own, and these need not be consecutive"
 MOVED_DELETE = ("If the editor sends positions, the position of {delete} was perhaps not adjusted for {changes}, which the author of {delete} had "
                 "not seen{back}.{tie}")
-MOVED_BEFORE = "; or an insert that replica {replica} received before was not adjusted for a delete that the insert's author had not seen"
+MOVED_BEFORE = "; or replica {replica} did not adjust an insert that arrived earlier for a delete that the insert's author had not seen"
 UNKNOWN = ("No line inserts {names}. Perhaps the insert was not recorded, or under another name; or the document was not empty at first: then let one replica insert "
            "what was there, and the others receive it.")
 REPLACED = ("Replica {replica} showed {missing} in {before}; since then it only received {came}, and nothing that came deletes {missing}. Look at what {came_first} does there: "
             "does an arriving state replace the replica's own, or does the editor take back its own changes when others' arrive?")
-VANISHED = "Replica {replica}'s answer in {before} is right, and it has received nothing since. Look at what replica {replica} does between that and this response{unrecorded}"
+VANISHED = "Replica {replica}'s answer in {before} is right, and it has received nothing since. Look at what replica {replica} does between that answer and this one{unrecorded}"
 TOO_MUCH = ("It looks as if {deletes}{applied} deleted {missing} along with {theirs}: {missing} stood in {before}, and no delete of {it} has arrived since. Look at where the delete begins, and at "
             "how many elements it deletes.")
 NOT_SEEN = " The author of {changes} had not seen {missing}: what deletes a range, by elements or positions, must leave out what its author had not seen."
@@ -72,7 +73,7 @@ SECOND_DELETE = {
     False: "It looks as if {again}{applied} deleted {missing} instead of {element}: look at how a replica that applies a delete finds the element. {element} was already deleted "
            "there, by {first}, so look also at what the editor does with a delete whose element is gone.",
     True: "It looks as if {again}{applied} deleted {missing}. Its own element, {element}, was already deleted there, by {first}: such a delete must change nothing. Look at what the "
-          "editor does with it; and at how the position of {name} is adjusted there, also for the replica's own changes that the author of {name} had not seen.",
+          "editor does with it; and at how the position of {name} is adjusted there.",
 }
 CAUSAL = ("Your editor may be right, but it needs operations in causal order: apply an operation only after everything that its author had seen, or send all of that along with it. If the editor itself holds operations "
           f"back, write the receipt of each only when it is applied. {GUIDE} shows what to record in each case.")
@@ -87,8 +88,8 @@ BACK_AGAIN = "When {came} came{line}, {back} came back, which {was} deleted at r
 OWN_ON_WAY = ("When {came} came{line}, replica {replica} had changes of its own on their way, which the author of {came} had not seen: {own}.{elsewhere} So perhaps {missing} {was} inserted "
               "rightly, and then removed by {delete}{twice}. Look at ")
 SHOWN_ELSEWHERE = " Replica {other} received {same} too, and shows {missing} in {operation}."
-TWICE = ", perhaps that of {element}, which {other} deletes too"
-OWN_GONE = ("Replica {replica} showed its own changes in {before}, and shows them no more: {own}.{came}{unknown} Was its list replaced by a state from elsewhere that lacks them, or were they taken "
+TWICE = ", since {other} deletes {element} too"
+OWN_GONE = ("Replica {replica} showed its own changes in {before}, and shows them no more: {own}.{came}{unknown} Was the replica's list replaced by a state from elsewhere that lacks them, or were they taken "
             "back and not applied again? Look also at the store of unconfirmed own changes, and at when they are removed from it.")
 CAME_SINCE = " Since then it received {came}."
 OWN_UNKNOWN = " No other replica shows that it has them."
@@ -100,7 +101,7 @@ OWN_LOST = ", and {missing} {is_} not there: perhaps that delete now hits {it} i
 HEALED = "Later replica {other} reads another list in {after} than in {before}, though it received and changed nothing between. Something that is not recorded did that: "
 BY_SERVER = ("with a server, perhaps its acknowledgement of the replica's own change. Then server and replica adjust one change differently: look at which changes each of them adjusts it for. "
              "Client and server must adjust in the same way, and each change only once.")
-UNRECORDED = {True: "; if there is a server, at what its acknowledgement of the replica's own change does there.",
+UNRECORDED = {True: "; if there is a server, also at what its acknowledgement of the replica's own change does.",
               False: ": are deleted elements thrown away there, changes that were held back applied, or a copy of the list made anew?"}
 
 
@@ -328,7 +329,7 @@ def wrong_delete(evidence: Evidence, operation: Operation) -> list:
     if is_deleted or not news or is_new or not any(map(operation.has_seen, inserts)):
         return []
     look = WRONG_LOCAL_DELETE if news[0] is operation else WRONG_POSITION if evidence.kind == POSITIONS else WRONG_DELETE
-    told = look.format(delete=at(news[0]), name=news[0].name, replica=operation.replica, missing=missing, surplus=surplus) + rivals(evidence, news[0], missing) + where_it_came(evidence, news[0], [missing])
+    told = with_others(evidence, news[0], [missing], look.format(delete=at(news[0]), name=news[0].name, replica=operation.replica, missing=missing, surplus=surplus) + rivals(evidence, news[0], missing))
     counted_twice = deleted_twice(evidence) if news[0] is operation else []
     return tied_first([Cause("wrong delete", told), *counted_twice, *moved_delete(evidence, news[0])])
 
@@ -363,11 +364,11 @@ def lacked_elsewhere(evidence: Evidence, delete: Operation, missing: list) -> st
     return ""
 
 
-def where_it_came(evidence: Evidence, delete: Operation, missing: list) -> str:
-    """Of a delete that seems to have deleted something else, what a third replica shows; else, where changes carry positions, what was on its way where it came."""
-    told = lacked_elsewhere(evidence, delete, missing)
+def with_others(evidence: Evidence, delete: Operation, missing: list, told: str) -> str:
+    """The words on a delete that seems to have deleted something else, behind what a third replica shows; else, where changes carry positions, before what was on its way where it came."""
+    elsewhere = lacked_elsewhere(evidence, delete, missing)
     arrival = arrival_of(evidence, delete)
-    return told or (f" {on_way_then(evidence, arrival, f'Replica {arrival.replica}')}".rstrip() if arrival and evidence.kind == POSITIONS else "")
+    return elsewhere + told if elsewhere or not arrival or evidence.kind != POSITIONS else f"{told} {on_way_then(evidence, arrival)}".rstrip()
 
 
 def misnamed(evidence: Evidence) -> list:
@@ -466,7 +467,7 @@ def own_on_way(evidence: Evidence) -> list:
     is_one = not evidence.missing[1:]
     return [Cause("own on way", OWN_ON_WAY.format(
         came=came[-1].name, line=f" in line {arrival.line}", replica=operation.replica, own=named(own), elsewhere=elsewhere, missing=listed(evidence.missing, MOST_TOLD),
-        was="was" if is_one else "were", delete="one of these deletes" if own[1:] else "this delete", twice=TWICE.format(element=both[0].element, other=at(both[1])) if both else "") + OWN_ADJUSTED)]
+        was="was" if is_one else "were", delete="one of these deletes" if deletes[1:] else f"the delete of {deletes[0].element}", twice=TWICE.format(element=both[0].element, other=at(both[1])) if both else "") + OWN_ADJUSTED)]
 
 
 def last_whole(evidence: Evidence, operation: Operation) -> Operation | None:
@@ -533,8 +534,8 @@ def replaced(evidence: Evidence) -> list:
 def second_delete(evidence: Evidence) -> list:
     found = evidence.second_deletes[:1]
     replica = evidence.operations[0].replica
-    return [Cause("second delete", SECOND_DELETE[evidence.kind == POSITIONS].format(again=at(again), name=again.name, element=again.element, first=at(first),
-                                                        missing=listed(evidence.lost, MOST_TOLD), applied="" if again.replica == replica else f", applied at replica {replica},") + where_it_came(evidence, again, evidence.lost))
+    return [Cause("second delete", with_others(evidence, again, evidence.lost, SECOND_DELETE[evidence.kind == POSITIONS].format(
+        again=at(again), name=again.name, element=again.element, first=at(first), missing=listed(evidence.lost, MOST_TOLD), applied="" if again.replica == replica else f", applied at replica {replica},")))
             for again, first in found] + [one for again, _ in found for one in moved_delete(evidence, again) if one.name == "positions"]
 
 

@@ -10,18 +10,18 @@ from .positions import are_put_at_once, elements_before, list_of, met_inserts, n
 from .recordings import Operation, place_asked
 from .telling import at, counted, joined, listed
 
-NUMBERS_OF_INSERTS = (" Often the clock that decides between inserts does not advance when changes arrive, or does not advance past the last element of a paste; or the neighbour is not found; or "
+NUMBERS_OF_INSERTS = (" Often the clock that decides between inserts does not advance when changes arrive, or does not advance past the number of the last pasted element; or the neighbour is not found; or "
                       "elements are stored in runs (blocks of several), and a run is split at a wrong offset{deleted}.")
 OF_INSERTS = {
     "": NUMBERS_OF_INSERTS, NEIGHBOURS: NUMBERS_OF_INSERTS, POSITIONS: " Client and server must adjust in the same way, and each change only once.", IDENTIFIERS: "",
-    TREE: " Often the clock that decides between children does not advance when changes arrive, or does not advance past the last element of a paste; or the parent is not the one that the "
+    TREE: " Often the clock that decides between children does not advance when changes arrive, or does not advance past the number of the last pasted element; or the parent is not the one that the "
           "author meant{deleted}.",
 }
-DELETED_TOO = {"": " (deleted elements count in it too)", NEIGHBOURS: " (deleted elements count in it too)", TREE: ", as where the element beside it is deleted", IDENTIFIERS: "", POSITIONS: ""}
+DELETED_TOO = {"": " (the offset must count deleted elements too)", NEIGHBOURS: " (the offset must count deleted elements too)", TREE: ", as where the element beside it is deleted", IDENTIFIERS: "", POSITIONS: ""}
 IDENTIFIERS_OF = ("If the list is sorted by position identifiers, print those of {names} at line {line}. If they do not rise in this order, look at how the identifier of {element} was made; if "
                   "they do, at how identifiers are compared (numbers must not be compared as text).")
-SORTED = ("If the list is sorted by position identifiers, look at those of {names}: are {two} equal, does one differ between replicas, are numbers compared as text, or does one not lie between "
-          "those of its neighbours?{circle}")
+SORTED = ("If the list is sorted by position identifiers, look at those of {names}: are {two} equal, does one differ between replicas, are numbers compared as text, or is one of them not between "
+          "the identifiers of its neighbours?{circle}")
 NO_ORDER = " Or does the comparison go in a circle, as when numbers and authors are compared by turns?"
 REORDERED = ("Replica {replica} itself changed the order of elements that it had shown: {one} before {two} in {before}, {two} before {one} in {after}. Between the two "
              "it {did}. Look at {look}")
@@ -30,18 +30,18 @@ DECIDES = ("what decides which of {two} and {one} comes first: once both are ins
 MAPPING = ("Look at how the position that a user sees is mapped to a place in the editor's own list{deleted}; and at whether the "
            "recorder writes the position that was asked for.")
 ADJUSTS = "how what comes and the replica's own changes that are still on their way are adjusted for each other there."
-BESIDE_GONE = ("{passed} was put {side} {gone} ({insert}), which is deleted at replica {replica} by now: so {element} belongs beside a deleted element. Look at how an insert finds its "
+BESIDE_GONE = ("{passed} was put {side} {gone} ({insert}), and that is deleted at replica {replica} by now: so {element} was inserted beside a deleted element. Look at how an insert finds its "
                "place there; in a tree of elements, at how the children of a deleted one are shown: all its left children must come before all its right ones.")
 NUMBERS = ("If the editor decides by numbers (a clock, ids) which of two inserts at one place comes first, look at theirs: {element} stands behind "
-           "{passed}, which replica {replica} had already. To stand before, {element} needs a number greater than {theirs}; perhaps it has none. Usual causes: "
+           "{passed}, which replica {replica} had already. To stand before, {element} needs a number greater than {theirs}; perhaps its number is not greater. Usual causes: "
            "{causes}ids are compared as text, so 10 comes before 9.")
 NUMBERS_TREE = ("Look at where a new child is put: {element} stands behind {passed}, which replica {replica} had already. Perhaps its parent is not the one that was meant; or the place beside a "
                 "sibling, with all that hangs on that, is not found; or siblings stand in the order of numbers, and the one of {element} is not greater than {theirs} (usual causes: "
                 "{causes}ids are compared as text).")
-KEPT_PLACE = ("{came} came to replica {replica} in line {line}, beside {own}, which the replica had inserted itself before by {insert}. Does the editor keep a position, or a range, from its last "
-              "insert? Then what arrives there must update these.")
-STALE = ("[{element}] stands where position {at} was in {before}: since then replica {replica} received {came}. Does the editor keep something from before that, such as a place, an offset, an index "
-         "or a copy of the list? Then every kind of change that arrives must update it.")
+KEPT_PLACE = ("{came} came to replica {replica} in line {line}, beside {own}, which the replica had inserted earlier, by {insert}. Does the editor keep a position, or a range, from its last "
+              "insert? Then a change that arrives must update it.")
+STALE = ("[{element}] stands at the place that was position {at} in {before}. Since then replica {replica} received {came}. Does the editor still use something from before that (a place, an "
+         "offset, an index, a copy of the list)? Then every kind of change that arrives must update it.")
 CLOCK = {True: "the clock does not advance with each insert; ", False: "the clock does not advance when changes arrive, or when one that was held back is applied; the replica's number is compared before the clock; "}
 BESIDE_DELETED = ("If inserts find their place by a neighbour, look at inserts beside deleted elements: {which}. If replicas throw "
                   "deleted elements away, nothing says then where the insert belongs; if they keep them, the search for its place must treat them like "
@@ -55,29 +55,29 @@ SEVERAL_DELETED = ("Look at positions beside deleted elements: any {fewer} of {n
                    "because its neighbour was deleted meanwhile. {next}")
 NEXT = "Look first at where replica {replica} placed {element} in line {line}: it belongs beside {gone}, which had been deleted there."
 NO_NEXT = "The lines above say which elements each response no longer has."
-SEVERAL_APART = ("Look at how a replica orders elements when it has only some of them: any {fewer} of {named} fit together, but not all {k}. Where one of these responses lacks an element, that had "
+SEVERAL_APART = ("Look at how a replica orders elements when it has only some of them: any {fewer} of {named} fit together, but not all {k}. An element that one of these responses lacks had simply "
                  "not arrived yet; no delete is involved. Often the rule that orders concurrent "
                  "inserts is not the same everywhere.")
 WEAK_ALONE_HOLDS = ("An editor whose server orders all changes, as Jupiter's does, promises only the weak list specification, which holds here. If yours is such an editor, nothing is wrong here: "
                     "use --weak, which asks for the weak specification alone.")
-IN_RANGE = ("[{new}] belongs between {left} and {right}, and both had been deleted, one directly after the other, by {first} and {then}, when it came to replica {replica} in line {line}: it may be an insert into the "
-            "middle of a deleted range. Look at how such an insert is adjusted: it goes to where the range began, no further to the left. Look also at how the delete of a range is adjusted for it.")
+IN_RANGE = ("When [{new}] arrived at replica {replica} in line {line}, both its neighbours, {left} and {right}, had been deleted there, one directly after the other, by {first} and {then}: it may be an insert into the "
+            "middle of a deleted range. Look at how such an insert is adjusted: it must go to where the range began, no further to the left. Look also at how the delete of a range is adjusted for it.")
 SETTLED = ("Look at where a replica places an incoming insert beside a deleted element: [{first}] was put before [{middle}] ({op_first}), and [{then}] behind it ({op_then}), so "
               "[{middle}] settles their order, also where it is deleted; yet {wrong} shows them the other way round. {then_what}")
 SETTLED_BY = {
-    "": "This is not for the rule on concurrent inserts to decide.",
-    NEIGHBOURS: "This is not for the rule on concurrent inserts to decide: the search for the place must still find [{middle}], or what stood for it.",
-    TREE: "This is not for the rule on concurrent inserts to decide: look at how the children of [{middle}] and of its neighbours are ordered and shown where it is deleted.",
+    "": "The rule for concurrent inserts must not decide this.",
+    NEIGHBOURS: "The rule for concurrent inserts must not decide this: the search for the place must still find [{middle}], or what stood for it.",
+    TREE: "The rule for concurrent inserts must not decide this: look at how the children of [{middle}] and of its neighbours are ordered and shown where it is deleted.",
     IDENTIFIERS: "Print the identifiers of [{first}], [{middle}] and [{then}] at both replicas: they must rise in this order. If they do not, look at how the one of [{first}] or "
                  "[{then}] was made; if they do, at how they are compared, and at the search for a place.",
     POSITIONS: "Where [{middle}] is deleted both stand at one position, and that does not tell which comes first: look at how two inserts at an equal position are ordered, on the server and on "
-               "each client, and whether a delete between them is processed in the same order everywhere.",
+               "each client, and at whether the two inserts and the delete of [{middle}] are processed in the same order everywhere.",
 }
 HIDDEN_ORDER = ("[{new}] was put directly {side} {hidden} ({insert}), and {hidden} and [{old}] were inserted{place} without knowing of each other. {hidden} is deleted at replica {replica}, which "
-                "never showed the two together: perhaps it keeps them in another order than replica {author}, and [{new}] follows {hidden} there. So look first at the order of the concurrent "
-                "inserts {hidden} and [{old}]: at what is done in {lines}.")
-PAST = ("If inserts find their place by a neighbour, look at how [{other}] found its place{there}: if the search goes past [{behind}], it must also go past all that was put behind [{behind}], even "
-        "where that goes on in the next block of a list that is kept in blocks.")
+                "never showed {hidden} and [{old}] together: perhaps it keeps these in another order than replica {author}, and [{new}] follows {hidden} there. So look first at the order of the "
+                "concurrent inserts {hidden} and [{old}]: at what is done in {lines}.")
+PAST = ("If inserts find their place by a neighbour, look at how [{other}] found its place{there}: if the search goes past [{behind}], it must also go past all that was put behind [{behind}], also "
+        "where these elements go on in the next block (if the list is kept in blocks).")
 INSIDE = ("{operation} shows [{new}] between [{left}] and [{right}], though [{one}] was put directly {side} [{beside}] by {insert}, which did not know of it. In a tree an element stands beside a "
           "sibling and all that hangs on that: look at how the place before or behind a sibling is found, by the first or last of all that hangs on it, and only then at the order of "
           "siblings.")
@@ -93,10 +93,10 @@ RULES = {"": RULE, NEIGHBOURS: RULE, IDENTIFIERS: "",
          TREE: " Children of one parent must stand in one order everywhere (such as by the replicas' numbers), and each with all that hangs on it."}
 PRINT = {  # what tells a fault of what is sent from one of how it is applied
     "": "", POSITIONS: " Client and server must adjust in the same way, and each change only once.",
-    NEIGHBOURS: " Print what replicas {one} and {other} keep of both (neighbour, number, author): if it differs, look at what is sent and what changes it later; if not, at how the "
-                "place of an incoming insert is found.",
-    TREE: " Print what replicas {one} and {other} keep of both (parent, side, number, author): if it differs, look at what is sent and what changes it later; if not, at how children "
-          "are ordered, and how the tree is walked.",
+    NEIGHBOURS: " Print what replicas {one} and {other} store for these two elements (neighbour, number, author). If that differs between the replicas, look at what is sent and at what changes it "
+                "later; if not, look at how the place of an incoming insert is found.",
+    TREE: " Print what replicas {one} and {other} store for these two elements (parent, side, number, author). If that differs between the replicas, look at what is sent and at what changes it "
+          "later; if not, look at how children are ordered, and how the tree is walked.",
     IDENTIFIERS: " Print both identifiers at replicas {one} and {other}: if one differs between these, look at what is sent; if the two are equal, at how they are made; else at how they are "
                  "compared, and at the search for a place.",
 }
@@ -113,10 +113,11 @@ LET_OUT = (" [{old}] arrived at replica {replica} together with others, with no 
 SEEN = ("When replica {author} inserted [{new}] ({later}, line {line}), it had [{old}] already{since}, and put [{new}] {side} it. That order must hold everywhere, but {operation} "
         "shows [{new}] {other_side} [{old}]. {look}.{numbers}{let_out}")
 OF_AUTHOR_OR_PLACE = "Look at the message that replica {author} made for that insert, and at where replica {replica} placed it{arrived}"
-BETWEEN_THE_TWO = "Look at what replica {author} did between the two"
+BETWEEN_THE_TWO = "Look at what replica {author} did between the two responses"
 SEEN_IN_CYCLE = ("When replica {author} inserted [{new}] ({later}, line {line}), it had [{old}] already{since}, and put [{new}] {side} it: look at whether the message for that insert says so too, "
                  "and its number.{numbers}{let_out}")
-SHOWN_ALONE = ("Replica {replica} inserted [{new}] ({insert}, line {line}) {side} [{old}]. No other replica shows them so. After its next receipt (line {receipt}), from {own} on, replica {replica} itself shows [{new}] "
+SHOWN_ALONE = ("Replica {replica} inserted [{new}] ({insert}, line {line}) {side} [{old}]. No other replica shows them in this order. After its next receipt (line {receipt}), from {own} on, "
+               "replica {replica} itself shows [{new}] "
                "{other_side} [{old}], like the others. ")
 ANOTHER_PLACE = ("So the message for this insert seems to name another place than the one where its author put it: compare where a local insert goes into the list with what its message "
                  "says.")
@@ -124,8 +125,8 @@ MOVED_THEN = "Look first at what is done in line {receipt}: at " + OWN_ADJUSTED
 ALONE_BY = {"": ANOTHER_PLACE + " Or, if replicas talk through a server, the insert was moved in line {receipt}: then look at how the replica's own changes that are still on their way are adjusted for what arrives.",
             NEIGHBOURS: ANOTHER_PLACE, TREE: ANOTHER_PLACE, IDENTIFIERS: ANOTHER_PLACE, POSITIONS: MOVED_THEN + " Then look at what the message for the insert says."}
 ONE_IS_WRONG = ("with a server or a relay, perhaps its acknowledgement of the replica's own change. Then one of the two lists is wrong: that of {before}{made}, or the one after the "
-                "acknowledgement. Two pieces of code must adjust in the same way: (1) the one that adjusts an arriving change and the replica's own changes on their way for each other; (2) the one "
-                "that handles the acknowledgement{server}. Compare which changes they adjust, whether each only once, and which of two at one position comes first.")
+                "acknowledgement. Two pieces of code must adjust in the same way: (1) the code that adjusts an arriving change for the replica's own changes on their way, and these for it; (2) the "
+                "code that handles the acknowledgement{server}. Compare which changes each of them adjusts, whether each only once, and which of two inserts at one position it puts first.")
 TURNED_BY_ITSELF = ("Replica {replica} shows {two} before {one} in {before}, and {one} before {two} in {after}, though it received and changed nothing between. Something that is not "
                     "recorded did that: ")
 MOVED_INSERT = ("If the editor sends positions, the position of {element} was perhaps not adjusted for {changes}, which replica {replica} "
@@ -286,7 +287,7 @@ def odd_one(evidence: Evidence) -> list:
     others, operation, receipt = evidence.odd_one
     two, one = [name for name in operation.response if name in evidence.elements]
     return [Cause("odd one", ODD_ONE.format(others=joined(list(map(str, others))), one=one, two=two, odd=operation.replica, operation=at(operation), line=receipt.line, came=receipt.seen.name,
-                                            own=on_way_then(evidence, receipt, "It")))]
+                                            own=on_way_then(evidence, receipt)))]
 
 
 def sorted_alike(evidence: Evidence) -> Cause:

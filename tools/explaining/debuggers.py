@@ -121,18 +121,18 @@ def followed(change: Operation, replica: int) -> str:
     return f"stop before line {change.line} of the trace, where {doing(change)}, and follow {change.name} to replica {replica}."
 
 
-def statement(recording: Recording, entry: Operation | Receipt, language: str) -> str:
-    """How to stop before this entry, in the recorder's language. Receipts that stand together may have been written together, when all were
+def statement(recording: Recording, entry: Operation | Receipt, language: str) -> list:
+    """How to stop before this entry, in the recorder's language: where, and the statement. Receipts that stand together may have been written together, when all were
     applied, and so may a paste, or a delete of several: then before the first of them."""
     language = language if language in LANGUAGES else USUAL
     name, words = LANGUAGES[language]
     is_read = isinstance(entry, Operation) and entry.kind in ("read", "view")
     first = first_together(recording, entry)
-    then, asked = f"it stops when {entry.line - 1} lines have been recorded", words.format(entry.line - 1)
+    then, asked = f"It stops when {entry.line - 1} lines have been recorded", words.format(entry.line - 1)
     if first < entry.line:
-        then += f", or {first - 1} if one call of the recorder wrote lines {first} to {entry.line}"
+        then += f", and at {first - 1} in case one call of the recorder wrote lines {first} to {entry.line}"
         asked = FOR_TWO[language].format(first - 1, entry.line - 1)
-    return f" In {name}, put this {READS if is_read else BEGINS}; {then}: {asked}"
+    return [f"In {name}, put the next line {READS if is_read else BEGINS}. {then}.", f"  {asked}"]
 
 
 def first_together(recording: Recording, entry: Operation | Receipt) -> int:

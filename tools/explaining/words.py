@@ -127,7 +127,7 @@ def in_a_debugger(told: Evidence, language: str, causes: list) -> list:
         return []
     (change, replica), *_ = astray(told) if causes[0].name == "lost" else [(None, None)]
     told_of = debuggers.followed(change, replica) if change else debuggers.told(told, entry, others)
-    return [Section(debuggers.TITLE, [told_of + debuggers.statement(told.recording, change or entry, language)])]
+    return [Section(debuggers.TITLE, [told_of, *debuggers.statement(told.recording, change or entry, language)])]
 
 
 def without_receipts(evidence: Evidence) -> list:
@@ -347,7 +347,7 @@ def brought(evidence: Evidence, operation: Operation) -> list:
     kept = [change for change in came if change.element not in gone]
     told = [did_there(evidence, change, operation.replica) for change in kept[:MOST_ARRIVED]]
     more = f" and {len(kept) - MOST_ARRIVED} more" if len(kept) > MOST_ARRIVED else ""
-    return [f"that brought: {', '.join(told)}{more}"] if told else []
+    return [f"that should have brought: {', '.join(told)}{more}"] if told else []
 
 
 def did_there(evidence: Evidence, change: Operation, replica: int) -> str:
@@ -364,7 +364,7 @@ def facts(evidence: Evidence, name: str, operation: Operation) -> list:
         lines.append("no operation of this trace inserts it")
     for change in evidence.changes(name, operation):
         verb = "inserted" if change.kind == "ins" else "deleted"
-        lines.append(f"{verb} by {at(change)}, {arrived(recording, change, operation)}")
+        lines.append(f"{verb} by {at(change)}{arrived(recording, change, operation)}")
         lines += overtaken(evidence, change, operation)
         lines += neighbours(evidence, change) if change.kind == "ins" and name not in evidence.repeated else []
         for other in evidence.beside(change) if change.kind == "ins" and operation.has_seen(change) else []:
@@ -415,32 +415,32 @@ def neighbours(evidence: Evidence, insert: Operation) -> list:
 def arrived(recording: Recording, seen: Operation, operation: Operation) -> str:
     """How an operation came to a replica before another one of it, or that it did not."""
     if seen is operation:
-        return "this operation itself"
+        return ", this operation itself"
     if not operation.has_seen(seen):
         return not_arrived(recording, seen, operation)
     way = recording.way(seen, operation)
     if not way:
-        return f"an earlier operation of replica {operation.replica}"
-    hops = [f"{how_arrived(receipt, seen)} in line {receipt.line} ({receipt.text})" + ", a line that `delivered` wrote" * recording.is_delivered(receipt.line) for receipt in way]
-    return "which " + ", and which ".join(hops)
+        return f", an earlier operation of replica {operation.replica}"
+    return "".join(how_arrived(recording, receipt, seen) for receipt in way)
 
 
-def how_arrived(receipt: Receipt, seen: Operation) -> str:
-    """That an operation arrived by a receipt of its own, or with what another one names."""
+def how_arrived(recording: Recording, receipt: Receipt, seen: Operation) -> str:
+    """That an operation arrived by a receipt of its own, or should have with what another one names, for a sentence on it."""
+    where = f"line {receipt.line} ({receipt.text}{', which `delivered` wrote' * recording.is_delivered(receipt.line)})"
     if receipt.seen is seen:
-        return f"arrived at replica {receipt.replica}"
-    why = "a later operation of its author" if receipt.seen.replica == seen.replica else "whose author had it"
-    return f"replica {receipt.replica} should have had when {receipt.seen.name}, {why}, arrived"
+        return f", which arrived at replica {receipt.replica} in {where}"
+    why = f"{receipt.seen.name} is a later operation of its author" if receipt.seen.replica == seen.replica else f"the author of {receipt.seen.name} had it"
+    return f". Replica {receipt.replica} should have had it since {where}: {why}"
 
 
 def not_arrived(recording: Recording, seen: Operation, operation: Operation) -> str:
     if seen.replica == operation.replica:
-        return f"a later operation of replica {operation.replica}"
+        return f", a later operation of replica {operation.replica}"
     late = recording.arrival(seen, operation.replica)
     if late is None:
-        return f"and replica {operation.replica} has no receipt of it"
-    with_it = "" if late.seen is seen else f"with {late.seen.name}, "
-    return f"and that arrived at replica {operation.replica} only {with_it}in line {late.line} ({late.text}), after this response"
+        return f", and replica {operation.replica} has no receipt of it"
+    with_it = "" if late.seen is seen else f"with {late.seen.name} "
+    return f", which replica {operation.replica} got only {with_it}in line {late.line} ({late.text}), after this response"
 
 
 def position(evidence: Evidence) -> tuple:
@@ -459,7 +459,7 @@ def position(evidence: Evidence) -> tuple:
         lines.append(f"found at: position {place}{', the end of the list' if is_end else ''}")
     else:
         gone = next(change for change in evidence.recording.deletes[operation.element] if operation.has_seen(change))
-        lines.append(f"found at: no position, since {operation.element} was deleted by {at(gone)}, {arrived(evidence.recording, gone, operation)}")
+        lines.append(f"found at: no position, since {operation.element} was deleted by {at(gone)}{arrived(evidence.recording, gone, operation)}")
     return (f"position {operation.name}: {operation.element} is not at the position that was asked for.",
             [Section("The response, positions counted from 0", lines)])
 
