@@ -1741,6 +1741,9 @@ def kinds(tally: Tally, program: str, folder: str) -> None:
 
 # By what is told first: the editor's kind, how many replicas there are, the entries, and the words.
 FIRST_TOLD = {
+    "deletes that stop at another's element": ("neighbours", 2, "0 ins a 0 : a|0 ins b 1 : a b|1 recv 0 2|1 ins c 1 : a c b|0 del a : b|0 del b :|1 recv 0 4|1 read : c b",
+        "0.3 (line 7) was applied at replica 1, but not 0.4 (line 8), which was made right after that. If your editor sends all of these deletes as one change, it looks as if that was applied in part: look "
+        "first at whether the delete goes on past c, which stood between them in 1.1 (line 6) and which their author had not seen; then at what a replica does where one of several elements is gone"),
     "own changes on their way": ("positions", 3, "0 ins a 0 : a|1 recv 0 1|2 recv 0 1|1 read : a|2 read : a|1 ins b 1 : a b|1 del a : b|0 ins c 1 : a c|2 recv 0 2|2 read : a c|1 recv 0 2|1 read : b",
         "When 0.2 came in line 13, replica 1 had changes of its own on their way, which the author of 0.2 had not seen: the insert of b by 1.2 (line 8) and the delete of a by 1.3 (line 9). Replica 2 "
         "received 0.2 too, and shows c in 2.2 (line 12). So perhaps c was inserted rightly, and then removed by the delete of a. Look at how the replica's own changes that are still on their way are adjusted for an arriving change, and how that is adjusted for them (each for the unadjusted form of the other). If the editor takes its own changes back and applies them again, look at how it does that."),
@@ -1855,6 +1858,18 @@ def first_told(tally: Tally, program: str, folder: str) -> None:
             told = explain(program, [*(["--editor", kind] if kind else []), str(path)]).out.decode()
             tally.check(f"first told: {kind}: what another had deleted came back, by {what}", (words in told) == (kind != "positions") and (
                 f"since then it received 2.{2 + (what == 'several')} (line {line})\n  that should have brought: {brought}\n") in told, told)
+    path.write_text(text_of(3, "0 ins a 0 : a|0 ins b 1 : a b|1 recv 0 2|2 recv 0 2|1 ins c 1 : a c b|2 ins d 1 : a d b|0 del a : b|0 del b :|2 recv 0 4|2 read : d b|1 recv 0 4|1 read : c b"))
+    told = explain(program, ["--editor", "neighbours", str(path)]).out.decode()
+    tally.check("first told: deletes that stop at others' elements, at two replicas", "0.4 (line 10) was not applied at replica 2: lost, or held back, or `received` is called before the change is applied.\n" in told, told)
+    path.write_text(text_of(2, "0 ins a 0 : a|0 ins b 1 : a b|1 recv 0 2|1 read : a b|0 del a : b|1 recv 0 3|1 read : a b"))
+    missed = "If the list is searched by identifiers, print those of the list that replica 1 showed before: where they do not rise, the search misses; then look at how the one out of order was made."
+    for kind in "identifiers", "neighbours", "positions":
+        told = explain(program, ["--editor", kind, str(path)]).out.decode()
+        tally.check(f"first told: {kind}: a delete that a search may miss", "0.3 (line 7) was not applied at replica 1" in told and (missed in told) == (kind == "identifiers"), told)
+    path.write_text(text_of(2, "0 ins a 0 : a|1 recv 0 1|1 ins b 0 : b a|0 recv 1 1|0 read : a b"))
+    for kind, line, doing in ("identifiers", 5, "replica 1 inserts b"), ("neighbours", 6, "replica 0 applies 1.1"):
+        told = explain(program, ["--editor", kind, str(path)]).out.decode()
+        tally.check(f"first told: {kind}: where an identifier is made: the debugger", f"\n  stop before line {line} of the trace, where {doing}; if nothing is wrong there, stop at" in told, told)
     rivals = "b and a were inserted into one gap without knowing of each other. Which of them comes first must be decided by a rule that never ties (such as comparing the replicas' numbers, not the letters)"
     for what, entries, is_rival in (
             ("into nothing", "0 ins a 0 : a|1 ins b 0 : b|0 del a :|1 recv 0 1|1 read : b a|1 recv 0 2|1 read : a", True),

@@ -956,7 +956,7 @@ def grouped(tally: Tally, program: str, folder: str) -> None:
     got = judge(program, ["--junit", f"{folder}/junit.xml", folder])
     rows = [cells(line) for line in got.out.decode().splitlines()]
     tally.check("grouped: the rows", [(Path(row[0]).stem, row[6]) for row in rows[:-1]] == [
-        ("file", "similar"), ("a", "1"), ("c", "0"), ("d", "0"), ("e", "0")] and rows[-1] == ("5 traces: 5 contents",), rows)
+        ("file", "similar"), ("a", "1"), ("c", "0"), ("d", "0"), ("e", "0")] and rows[-1] == ("5 traces: 5 contents; 1 not listed, which look the same as a listed one (`similar`)",), rows)
     tally.check("grouped: JUnit has each", len(list(xml.parse(f"{folder}/junit.xml").getroot().iter("failure"))) == 5)
     objects = [json.loads(line) for line in judge(program, ["--json", folder]).out.decode().splitlines()]
     tally.check("grouped: JSON has each", sorted((Path(row["file"]).stem, row["causes"][-1], row.get("place")) for row in objects) == [

@@ -3,7 +3,7 @@ from __future__ import annotations
 
 from .cause import BY_ITSELF, MOST_TOLD, OWN_ADJUSTED, Cause, astray, at_once, changes_told, deleted_twice, emptied, is_agreed, is_deleted, lost, may_be_server, named, on_way_then, otherwise, shown_in_orders
 from .evidence import Evidence
-from .kinds import POSITIONS, is_possible
+from .kinds import IDENTIFIERS, POSITIONS, is_possible
 from .positions import met, met_before, neighbours, not_behind, put_there_at_once
 from .programs import GUIDE
 from .recordings import Operation, Receipt
@@ -32,12 +32,15 @@ LATER = {True: " {operation} shows it, after the arrival in line {line}: perhaps
                 "anew after every change, remote ones too?"}
 ELSEWHERE = {True: " Replica {other} has applied {change}, as {operation} shows: so look at replica {replica}.",
              False: " Replica {other} has not applied {change} either, as {operation} shows: so look first at what is sent{server}."}
+SEARCH_MISSED = (" If the list is searched by identifiers, print those of the list that replica {replica} showed before: where they do not rise, the search misses; then look at how the one out of order "
+                 "was made.")
 OTHER_DELETE = (" Or it deleted another element, one that was already deleted there: look at how a replica that applies a delete finds the element (is the "
                 "whole id compared?).")
 CAME_BEFORE = (" If it arrived before the insert of {elements}, look at the place where deletes wait until their element arrives: a second one must not overwrite the first, and each must be tried again then.")
 WAITED_IN_PART = ("{first} {was} applied at replica {replica}, but not {then}, which {were} made right after that. If your editor sends all of these deletes as one change, it looks as if that was "
-                  "applied in part: look at what a replica does where one of several elements is gone already, or has not come yet; and, if the change had to wait, at whether the editor checks "
+                  "applied in part: look {past}at what a replica does where one of several elements is gone already, or has not come yet; and, if the change had to wait, at whether the editor checks "
                   "what is still missing each time a missing element arrives.")
+PAST_OTHERS = "first at whether the delete goes on past {others}, which stood between them in {before} and which their author had not seen; then "
 IN_PART = ("{first} and {then} were made one after the other, and came to replica {replica} together; there {element} was deleted already, by {gone}, and {surplus} "
            "{is_} still shown. If your editor sends both deletes as one change, it looks as if that was applied in part: look at what a replica does where one of "
            "several elements is gone already; it must go on with the others.")
@@ -182,8 +185,17 @@ def waited_in_part(evidence: Evidence) -> list:
     if not others or any(change not in evidence.made_before(left_out[-1]) for change in left_out[:-1]):
         return []
     told = WAITED_IN_PART.format(first=listed(list(map(at, others)), MOST_TOLD), was="were" if others[1:] else "was", replica=operation.replica,
-                                 then=listed(list(map(at, left_out)), MOST_TOLD), were="were" if left_out[1:] else "was")
+                                 then=listed(list(map(at, left_out)), MOST_TOLD), were="were" if left_out[1:] else "was", past=past_others(evidence, others + left_out))
     return [Cause("applied in part", told)]
+
+
+def past_others(evidence: Evidence, deletes: list) -> str:
+    """What stood between the elements of these deletes in the list before, and was unknown to their author."""
+    before = last_whole(evidence, evidence.operations[0])
+    names = before.response if before is not None else ()
+    places = [names.index(delete.element) for delete in deletes if delete.element in names]
+    others = [name for name in names[min(places, default=0):max(places, default=0)] if not any(map(deletes[0].has_seen, evidence.recording.inserts.get(name, [])))]
+    return PAST_OTHERS.format(others=listed(others, MOST_TOLD), before=at(before)) if others else ""
 
 
 def undelivered(evidence: Evidence) -> Cause:
@@ -230,17 +242,25 @@ def unlike_receipts(evidence: Evidence) -> list:
     if left_out and added:
         return []
     replica = evidence.operations[0].replica
-    return tied_first([Cause(name, look.format(replica=replica, other=other_than(evidence, changes), elsewhere=elsewhere(evidence, changes[0]) if evidence.in_part is None else "",
+    is_in_part = evidence.in_part is not None or waited_in_part(evidence) != []
+    return tied_first([Cause(name, look.format(replica=replica, other=other_than(evidence, changes) if not is_in_part else "",
+                                         elsewhere=elsewhere(evidence, changes[0]) if not is_in_part else "",
                                          later=later(evidence, changes), **changes_told(changes)))
             for name, look, changes in (("not applied", NOT_APPLIED, left_out), ("no receipt", NO_RECEIPT, added)) if changes] + [
                 one for change in left_out[:1] if len(left_out) == 1 for one in moved_delete(evidence, change)])
 
 
 def other_than(evidence: Evidence, changes: list) -> str:
-    """What else may have become of changes that were not applied: deletes whose elements came no sooner than they, or one that hit what was deleted already.
-    In an editor that sends positions neither can be."""
+    """What else may have become of changes that were not applied: deletes whose elements came no sooner than they, which a search by identifiers missed, or one that hit
+    what was deleted already. In an editor that sends positions none of these can be."""
     if evidence.kind == POSITIONS or any(change.kind != "del" for change in changes):
         return ""
+    missed = SEARCH_MISSED.format(replica=evidence.operations[0].replica) if evidence.kind == IDENTIFIERS else ""
+    return missed + other_delete(evidence, changes)
+
+
+def other_delete(evidence: Evidence, changes: list) -> str:
+    """The same, but for a search by identifiers."""
     if all(any(map(evidence.is_new, evidence.recording.inserts.get(change.element, []))) for change in changes):
         return CAME_BEFORE.format(elements=listed([change.element for change in changes], MOST_TOLD))
     return OTHER_DELETE if len(changes) == 1 and was_deleted_before(evidence, changes[0]) else ""

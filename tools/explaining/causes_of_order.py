@@ -93,10 +93,8 @@ RULES = {"": RULE, NEIGHBOURS: RULE, IDENTIFIERS: "",
          TREE: " Children of one parent must stand in one order everywhere (such as by the replicas' numbers), and each with all that hangs on it."}
 PRINT = {  # what tells a fault of what is sent from one of how it is applied
     "": "", POSITIONS: " Client and server must adjust in the same way, and each change only once.",
-    NEIGHBOURS: " Print what replicas {one} and {other} store for these two elements (neighbour, number, author). If that differs between the replicas, look at what is sent and at what changes it "
-                "later; if not, look at how the place of an incoming insert is found.",
-    TREE: " Print what replicas {one} and {other} store for these two elements (parent, side, number, author). If that differs between the replicas, look at what is sent and at what changes it "
-          "later; if not, look at how children are ordered, and how the tree is walked.",
+    NEIGHBOURS: " Print what replicas {one} and {other} store for these two elements (neighbour, number, author). If the two replicas differ, look at what is sent and what changes it later; if not, at how the place of an incoming insert is found.",
+    TREE: " Print what replicas {one} and {other} store for these two elements (parent, side, number, author). If the two replicas differ, look at what is sent and what changes it later; if not, at how children are ordered, and how the tree is walked.",
     IDENTIFIERS: " Print both identifiers at replicas {one} and {other}: if one differs between these, look at what is sent; if the two are equal, at how they are made; else at how they are "
                  "compared, and at the search for a place.",
 }

@@ -2,7 +2,7 @@
 from __future__ import annotations
 
 from .evidence import Evidence
-from .kinds import BY_ELEMENTS, POSITIONS
+from .kinds import BY_ELEMENTS, IDENTIFIERS, POSITIONS
 from .recordings import FIRST_ENTRY, Operation, Receipt, Recording
 
 TITLE = "In a debugger"
@@ -29,7 +29,7 @@ BEGINS, READS = "right before the call that makes the editor apply a change, loc
 
 def stop_of(evidence: Evidence) -> tuple:
     """The entry before which to stop, and the others to try if that one goes right: of a refusal where its elements arrived, the last one
-    first, or at the insert that its author alone places so, else at its last response; of wrong contents where a second delete or what overtook a change arrived, or at what was received
+    first, or at the insert that its author alone places so, or whose identifier is in question, else at its last response; of wrong contents where a second delete or what overtook a change arrived, or at what was received
     first since the replica's operation before, if anything was; else at the operation that is named, a read's also at what came last. Of a wrong
     position, at the insert, and at what came beside the replica's last one. None of another verdict."""
     if evidence.report["verdict"] not in ("refused", "contents", "position"):
@@ -39,7 +39,7 @@ def stop_of(evidence: Evidence) -> tuple:
                    if not evidence.recording.is_delivered(arrival.receipt.line)}
         *others, entry = list(arrived.values()) or [max(evidence.operations, key=lambda operation: operation.line)]
         odd = evidence.odd_one[-1] if evidence.kind == POSITIONS and evidence.odd_one else None
-        first = shown_alone(evidence) or reordering(evidence) or odd or came_between(evidence) or placed_alone(evidence)
+        first = shown_alone(evidence) or reordering(evidence) or identified(evidence) or odd or came_between(evidence) or placed_alone(evidence)
         arrivals = [entry, *others[::-1]] if arrived else []
         if evidence.shown_alone and evidence.shown_alone[2].line not in arrived:
             arrivals.insert(0, evidence.shown_alone[2])
@@ -78,6 +78,14 @@ def placed_alone(evidence: Evidence) -> Operation | None:
     """Of an insert where elements had been deleted, which its author alone shows in its order: the insert."""
     odd = evidence.odd_one if evidence.kind in BY_ELEMENTS and evidence.own_place else None
     return evidence.own_place[0] if odd and odd[1].replica == evidence.own_place[0].replica else None
+
+
+def identified(evidence: Evidence) -> Operation | None:
+    """In an editor that sorts by identifiers, of two elements of which one's author had the other: the later insert, which made its identifier."""
+    if evidence.kind != IDENTIFIERS or evidence.report["k"] > 2:
+        return None
+    first, then = (evidence.recording.inserts[name][0] for name in evidence.elements)
+    return first if first.has_seen(then) else then if then.has_seen(first) else None
 
 
 def reordering(evidence: Evidence) -> Operation | Receipt | None:

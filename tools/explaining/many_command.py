@@ -168,7 +168,9 @@ def print_table(rows: list, listed: list, is_weak: bool) -> None:
         print("  ".join(told).rstrip() if cells[-1][0] == "noted" else "  ".join(told))
     counts = Counter("weak alone" if row.weak_alone else row.verdict for row in rows)
     told = ", ".join(f"{counts[kind]} {kind}" for kind in [*KINDS[:1], "weak alone", *KINDS[1:]] if counts[kind])
-    print(f"{len(rows)} trace{'' if len(rows) == 1 else 's'}: {told}")
+    left = sum(more for _, more in rows_told)
+    unlisted = f"; {left} not listed, which look the same as a listed one (`similar`)" if left else ""
+    print(f"{len(rows)} trace{'' if len(rows) == 1 else 's'}: {told}{unlisted}")
 
 
 def object_of(row: Row) -> dict:
