@@ -701,6 +701,11 @@ def fails_at(tally: Tally, program: str, folder: str) -> None:
     tally.check("fails at: their order", told == sorted(told) and len(rows) > SESSIONS / 4, told)
     by_hand = {Path(name).stem: at for at, _, name in told if Path(name).stem.isalpha()}
     tally.check("fails at: by hand", by_hand == {"a": 6, "b": 6, "c": 4, "d": 5, "e": 4, "g": 4, "h": 4, "i": 4}, by_hand)
+    first = {Path(row["file"]).stem: row.get("first_fault") for row in rows if Path(row["file"]).stem.isalpha()}
+    tally.check("fails at: another verdict first, by hand", first == {**dict.fromkeys("abcde"), "g": "contents 1.2", "h": "contents 0.2", "i": "position 1.2"}, first)
+    lines = [cells(line) for line in judge(program, [f"{folder}/{name}.trace" for name in "abgh"]).out.decode().splitlines()]
+    tally.check("fails at: the table has a column for it", [(Path(line[0]).stem, line[3], line[4]) for line in lines[:-1]] == [
+        ("file", "fails at", "first fault"), ("h", "4", "contents 0.2"), ("g", "4", "contents 1.2"), ("a", "6", "-"), ("b", "6", "-")], lines)
     for row in rows:
         lines = Path(row["file"]).read_bytes().splitlines(keepends=True)
         before, behind = (run(program, ["verdict", "-"], b"".join(lines[:count])).status for count in (row["fails_at"] - 1, row["fails_at"]))

@@ -242,9 +242,9 @@ def unlike_receipts(evidence: Evidence) -> list:
     if left_out and added:
         return []
     replica = evidence.operations[0].replica
-    is_in_part = evidence.in_part is not None or waited_in_part(evidence) != []
-    return tied_first([Cause(name, look.format(replica=replica, other=other_than(evidence, changes) if not is_in_part else "",
-                                         elsewhere=elsewhere(evidence, changes[0]) if not is_in_part else "",
+    waited = waited_in_part(evidence)
+    return tied_first([Cause(name, look.format(replica=replica, other=other_than(evidence, changes) if not waited else "",
+                                         elsewhere=elsewhere(evidence, changes[0]) if not waited and evidence.in_part is None else "",
                                          later=later(evidence, changes), **changes_told(changes)))
             for name, look, changes in (("not applied", NOT_APPLIED, left_out), ("no receipt", NO_RECEIPT, added)) if changes] + [
                 one for change in left_out[:1] if len(left_out) == 1 for one in moved_delete(evidence, change)])

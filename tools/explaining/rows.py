@@ -57,6 +57,7 @@ class Row(NamedTuple):
     unequal: bool | None = None  # whether one of these says that the replicas end with different lists or without some change
     notes: list | None = None  # the user's own
     fails_at: int | None = None  # so many of the first lines fail already
+    first_fault: str | None = None  # the verdict on these, where it is another one
     causes: list | None = None  # names of those that the explanation has
     place: str | None = None  # of the user's code, from which the last of these lines was recorded
     weak_alone: bool | None = None  # whether it passes since weak holds, which alone is asked for, though strong doesn't
@@ -147,7 +148,8 @@ def placed(row: Row, request: Request, trace: bytes, known: Beside) -> Row:
         count, report = found
         causes = causes_of(whole if report == row.report else Evidence(recording, report, count, request.editor))
         entry = recording.entries[count - FIRST_ENTRY]
-        return row._replace(fails_at=count, causes=[cause.name for cause in causes], place=known.places.get(entry.line))
+        first = verdict_of(report).strip("`")
+        return row._replace(fails_at=count, first_fault=first if first != verdict_of(row.report).strip("`") else None, causes=[cause.name for cause in causes], place=known.places.get(entry.line))
     except (Unexplained, NoProgram, ValueError, LookupError):
         return row
 
