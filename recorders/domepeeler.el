@@ -978,8 +978,8 @@ A letter stands first, as `2-0' would look like an operation's name."
               (puthash third t inserted)
               (let ((before (1- (length (split-string names " " t)))))
                 (when (> (string-to-number fourth) before)
-                  (push (format "%s inserted %s at position %s, past the end of a list of length %d, %s %s asked for?" named third fourth before
-                                "so it counts as the end: was position" fourth)
+                  (push (format "%s inserted %s at position %s, past the end of a list of length %d, %s %s right?" named third fourth before
+                                "so it counts as the end: is position" fourth)
                         past-end))))))))
     (make-domepeeler--warned
      :entries entries

@@ -1326,7 +1326,7 @@ static inline void domepeeler_read_operation(struct domepeeler_warned *w, int re
     for (const char *letter = colon; letter < end; letter++) before += *letter == ' ';
     if (position <= before || w->ends++ >= DOMEPEELER_TOLD) return;
     domepeeler_say(&w->past_end, "line %zu, %d.%u: replica %d inserted %.*s at position %lld, past the end of a list of length %lld, so it "
-                                 "counts as the end: was position %lld asked for?\n", line, replica, event.n, replica,
+                                 "counts as the end: is position %lld right?\n", line, replica, event.n, replica,
                    (int)event.name.length, event.name.at, position, before, position);
 }
 

@@ -948,7 +948,7 @@ function hidden(lines) {
       inserted.add(words[2])
       if (Number(words[3]) > names.length - 1) {
         pastEnd.push(`line ${line}, ${replica}.${n}: replica ${replica} inserted ${words[2]} at position ${words[3]}, past the end of ` +
-          `a list of length ${names.length - 1}, so it counts as the end: was position ${words[3]} asked for?`)
+          `a list of length ${names.length - 1}, so it counts as the end: is position ${words[3]} right?`)
       }
     } else if (kind === "del") {
       deletes.push([words[2], `line ${line}, ${replica}.${n}: replica ${replica} deleted ${words[2]}, which no line inserts, so no ` +

@@ -965,7 +965,7 @@ def _hidden(lines: List[str]) -> List[str]:
             before = words[4].count(" ") - 1  # names in the list before it
             if int(words[3]) > before:
                 past_end.append(f"line {line}, {replica}.{n}: replica {replica} inserted {words[2]} at position {words[3]}, past the end of "
-                                f"a list of length {before}, so it counts as the end: was position {words[3]} asked for?")
+                                f"a list of length {before}, so it counts as the end: is position {words[3]} right?")
         elif kind == "del":
             deletes.append((words[2], f"line {line}, {replica}.{n}: replica {replica} deleted {words[2]}, which no line inserts, so no "
                                       f"response shows whether it was deleted: is {words[2]} the right name, and was its insert recorded?"))

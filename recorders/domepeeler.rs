@@ -1343,7 +1343,7 @@ impl<'a> Warned<'a> {
                     if i64::from(number(words[3])) > before {
                         warned.past_end.push(format!(
                             "{named} inserted {} at position {at}, past the end of a list of length {before}, so it counts as the end: \
-                             was position {at} asked for?",
+                             is position {at} right?",
                             words[2],
                             at = words[3]
                         ));

@@ -63,7 +63,7 @@ def stop(line: int, doing: str, *others: int, together: int = 0) -> str:
     doing += f"; if nothing is wrong there, stop at {arrivals[len(others) > 1]} ({before})" if others else ""
     asked = f"if recording.lines() == {line - 1}: breakpoint()"
     where = "right before the call that reads the list" if "reads the list" in doing else "right before the call that makes the editor apply a change, local or remote"
-    or_first = f", and at {together - 1} in case one call of the recorder wrote lines {together} to {line}" if together else ""
+    or_first = f", and at {together - 1} in case one call recorded lines {together} to {line}" if together else ""
     asked = f"if recording.lines() in ({together - 1}, {line - 1}): breakpoint()" if together else asked
     where += f". It stops when {line - 1} lines have been recorded{or_first}."
     return f"|In a debugger|stop before line {line} of the trace, where {doing}.|In Python, put the next line {where}|{asked}"
@@ -86,7 +86,7 @@ WORDS = [
      "a: inserted by 0.1 (line 3)|b: inserted by 1.1 (line 4)|"
      "b arrived at replica 0 in line 5, a at replica 1 in line 6|"
      "Look at the order of concurrent inserts: a and b were inserted at the front without knowing of each other, and were shown in two different orders. "
-     "Use a rule that gives the same order everywhere (such as the replicas' numbers), even in special cases such as appending; never the order of arrival.|"
+     "Use a rule that gives the same order everywhere (such as the replicas' numbers), never the order of arrival; a short cut, as for appending, must keep to it too.|"
      "If the list is sorted by position identifiers, look at those of a and b: are the two equal, does one differ between replicas, are numbers compared as text, or is one of them not between the identifiers of its neighbours?" + stop(6, "replica 1 applies 0.1", 5)),
     ("a replica that turns two elements round when it deletes another", 2, "0 ins a 0 : a|1 ins b 0 : b|1 recv 0 1|1 read : a b|1 ins c 2 : a b c|1 del c : b a",
      "[b] before [a]: line 8, 1.4: replica 1 deleted c, answered [b] [a]|Where to look|"
@@ -103,20 +103,20 @@ WORDS = [
      "Between the two it inserted c. Look at what decides which of b and a comes first: once both are inserted, their order must never change, "
      "whatever is inserted, deleted or received later.|If that is not the cause: look at how the position that a user sees is mapped to a place in the editor's own list; and at whether the recorder writes the position that was asked for." + stop(5, "replica 0 inserts c", together=3)),
     ("deletes of several of which the last was not done", 2, "0 ins a 0 : a|0 ins b 1 : a b|1 recv 0 2|1 read : a b|0 del a : b|0 del b :|1 recv 0 4|1 read : b",
-     "Where to look|0.3 (line 7) was applied at replica 1, but not 0.4 (line 8), which was made right after that. If your editor sends all of these deletes as one change, it looks as if that was applied in part: look at what a replica does where one of several elements is gone already, or has not come yet; and, if the change had to wait, at whether the editor checks what is still missing each time a missing element arrives." + stop(9, "replica 1 applies 0.4")),
+     "Where to look|0.3 (line 7) was applied at replica 1, but not 0.4 (line 8), which was made right after that. If your editor sends the deletes of a and b as one change, it looks as if that was applied in part: look at what a replica does where one of several elements is gone already, or has not come yet; and, if your editor holds a delete back until its elements have arrived, at whether it tries again each time one of these arrives." + stop(9, "replica 1 applies 0.4")),
     ("deletes of several whose names are counted on from the first", 2, "0 ins x1 0 : x1|1 recv 0 1|1 ins y1 1 : x1 y1|1 ins z1 2 : x1 y1 z1|0 ins x2 1 : x1 x2|1 recv 0 2|1 read : x1 y1 z1 x2|"
      "1 del x1 : y1 z1 x2|1 del x2 : z1 x2",
      "Where to look|1.4 (line 10) and 1.5 (line 11) delete x1 and x2; but x2 is still shown, while y1 is gone. Look at which ids a local delete puts into the change that it sends: where it deletes several, each element has an id of its own, and these need not be consecutive." + stop(11, "replica 1 deletes x2", together=10)),
     ("an insert that takes another element away", 1, "0 ins a 0 : a|0 ins b 1 : a b|0 ins c 1 : a c",
      "Where to look|The replica received nothing between 0.2 (line 4) and this response, so look at the local insert itself: at what it does to the list, and at which ids it puts into the change that it sends." + stop(5, "replica 0 inserts c")),
     ("a delete where the order of two at its place differs already", 2, "0 ins a 0 : a|0 ins w 1 : a w|1 ins c 0 : c|1 recv 0 1|1 read : a c|1 del c : a|0 recv 1 1|0 recv 1 3|0 read : c a",
-     "Where to look|c and a were inserted at one place without knowing of each other, and are shown in two orders: c before a in 0.3 (line 11), a before c in 1.2 (line 7). Look first at the order of concurrent inserts: it must be decided by a rule that never ties (such as comparing the replicas' numbers, not the letters). Where the order differs, a later change by position hits another element.|It looks as if 1.3 (line 8), applied at replica 0, deleted w instead of c: look at "
+     "Where to look|c and a were inserted at one place without knowing of each other, and are shown in two orders: c before a in 0.3 (line 11), a before c in 1.2 (line 7). Look first at the order of concurrent inserts: it must be decided by a rule that never ties (such as comparing the replicas' numbers; inserted letters may be equal). Where the order differs, a later change by position hits another element.|It looks as if 1.3 (line 8), applied at replica 0, deleted w instead of c: look at "
      "how a replica that applies a delete finds the element, and at whether the recorder writes the name of the element that was really deleted." + stop(9, "replica 0 applies 1.1")),
     ("an insert beside a deleted element, where others before it went well", 2, "0 ins a 0 : a|0 ins b 1 : a b|0 ins c 2 : a b c|0 ins z 3 : a b c z|1 recv 0 4|1 read : a b c z|"
      "1 del a : b c z|0 ins p 1 : a p b c z|1 recv 0 5|1 read : p b c z|1 del b : p c z|0 ins q 3 : a p b q c z|1 recv 0 6|1 read : p q c z|1 del c : p q z|"
      "0 ins r 5 : a p b q c r z|1 recv 0 7|1 read : p q r z|1 del r : p q z|0 ins s 6 : a p b q c r s z|1 recv 0 8|1 read : p q z s",
      "Where to look|When replica 0 inserted [s] (0.8, line 22), it had [z] already, and put [s] before it. That order must hold everywhere, but 1.9 (line 24) shows [s] behind [z]. "
-     "Look at the message that replica 0 made for that insert, and at where replica 1 placed it in line 23. Often the clock that decides between inserts does not advance when changes arrive, or does not advance past the number of the last pasted element; or the neighbour is not found; or elements are stored in runs (blocks of several), and a run is split at a wrong offset (the offset must count deleted elements too).|If inserts find their place by a neighbour, look at inserts beside deleted elements: s came to replica 1 in line 23, where its neighbour r had been "
+     "Look at the message that replica 0 made for that insert, and at where replica 1 placed it in line 23. Often the clock that decides between inserts does not advance when changes arrive, or advances past only the first element of a paste; or the neighbour is not found; or elements are stored in runs (blocks of several), and a run is split at a wrong offset (the offset must count deleted elements too).|If inserts find their place by a neighbour, look at inserts beside deleted elements: s came to replica 1 in line 23, where its neighbour r had been "
      "deleted. If replicas throw deleted elements away, nothing says then where the insert belongs; if they keep them, the search for its place must treat them like elements that are shown.|"
      "If the list is sorted by position identifiers, print those of r, s and z at line 22. If they do not rise in this order, look at how the identifier of s was made; if they do, at how "
      "identifiers are compared (numbers must not be compared as text).|If the editor sends positions, the position of s was perhaps not adjusted for the delete of a by 1.2 (line 9), the delete of b "
@@ -146,7 +146,7 @@ WORDS = [
      "[a] before [b]: line 5 of the trace, 1.1: replica 1 inserted b at position 1, answered [a] [b]|"
      "[b] before [a]: line 7, 0.2: replica 0 read the list, answered [b] [a]|"
      "a arrived at replica 1 in line 4, b at replica 0 in line 6|"
-     "When replica 1 inserted [b] (1.1, line 5), it had [a] already (since line 4), and put [b] behind it. That order must hold everywhere, but 0.2 (line 7) shows [b] before [a]. Look at the message that replica 1 made for that insert, and at where replica 0 placed it in line 6. Often the clock that decides between inserts does not advance when changes arrive, or does not advance past the number of the last pasted element; or the neighbour is not found; or elements are stored in runs (blocks of several), and a run is split at a wrong offset.|"
+     "When replica 1 inserted [b] (1.1, line 5), it had [a] already (since line 4), and put [b] behind it. That order must hold everywhere, but 0.2 (line 7) shows [b] before [a]. Look at the message that replica 1 made for that insert, and at where replica 0 placed it in line 6. Often the clock that decides between inserts does not advance when changes arrive, or advances past only the first element of a paste; or the neighbour is not found; or elements are stored in runs (blocks of several), and a run is split at a wrong offset.|"
      "If the list is sorted by position identifiers, print those of a and b at line 5. If they do not rise in this order, look at how the identifier of b was made; if they do, at how identifiers are compared (numbers must not be compared as text)." + stop(6, "replica 0 applies 1.1", 4)),
     ("three-way cycle", 3, THREE_WAY,
      "refused 3: three responses can't be right together. Any two of them can.|"
@@ -170,7 +170,7 @@ WORDS = [
      "c arrived at replica 0 in line 6, d at replica 1 in line 10||Where to look|"
      "If inserts find their place by a neighbour, look at inserts beside deleted elements: d "
      "came to replica 1 in line 10, where its neighbour b had been deleted. If replicas throw deleted elements away, nothing says then where the insert belongs; if they keep them, the search for its place must treat them like elements that are shown.|"
-     "When replica 0 inserted [d] (0.3, line 9), it had [c] already (since line 6), and put [d] before it. That order must hold everywhere, but 1.3 (line 11) shows [d] behind [c]. Look at the message that replica 0 made for that insert, and at where replica 1 placed it in line 10. Often the clock that decides between inserts does not advance when changes arrive, or does not advance past the number of the last pasted element; or the neighbour is not found; or elements are stored in runs (blocks of several), and a run is split at a wrong offset (the offset must count deleted elements too).|"
+     "When replica 0 inserted [d] (0.3, line 9), it had [c] already (since line 6), and put [d] before it. That order must hold everywhere, but 1.3 (line 11) shows [d] behind [c]. Look at the message that replica 0 made for that insert, and at where replica 1 placed it in line 10. Often the clock that decides between inserts does not advance when changes arrive, or advances past only the first element of a paste; or the neighbour is not found; or elements are stored in runs (blocks of several), and a run is split at a wrong offset (the offset must count deleted elements too).|"
      "If the list is sorted by position identifiers, print those of b, d and c at line 9. If they do not rise in this order, look at how the identifier of d was made; if they do, at how identifiers are compared (numbers must not be compared as text).|If the editor "
      "sends positions, the position of d was perhaps not adjusted for the delete of b by 1.2 (line 8), which replica 1 knew and the author of d did not." + stop(10, "replica 1 applies 0.3", 6)),
     ("an insert between two that were put together", 2, "0 ins a 0 : a|0 ins b 1 : a b|1 ins c 0 : c|1 recv 0 2|1 read : a c b|0 recv 1 1|0 read : a b c",
@@ -178,14 +178,14 @@ WORDS = [
      "[b] was put directly behind [a]. The author of [c] knew neither, and 1.2 (line 7) shows [c] between the two. If inserts find their place by a "
      "neighbour, look at how [c] found its place there: if the search goes past [a], it must also go past all that was put behind [a], also where these elements go on in the next block (if the list is kept in blocks).|"
      "Look at the order of concurrent inserts: b and c were inserted without knowing of each other, and were shown in two different orders. Use a rule that "
-     "gives the same order everywhere (such as the replicas' numbers), even in special cases such as appending; never the order of arrival."),
+     "gives the same order everywhere (such as the replicas' numbers), never the order of arrival; a short cut, as for appending, must keep to it too."),
     ("an insert behind what the other author did not know, which is deleted", 2, "0 ins a 0 : a|0 ins b 1 : a b|0 del a : b|1 ins c 0 : c|1 recv 0 3|"
      "1 read : c b|0 recv 1 1|0 read : b c", "Where to look|"
      "[b] was put directly behind [a], which the author of [c] did not know. If inserts find their place by a neighbour, look at how [c] found its "
      "place: if the search goes past [a], it must also go past all that was put behind [a], also where these elements go on in the next block (if the list is kept in blocks). Look also at inserts beside "
      "deleted elements: where [a] was thrown away as deleted, nothing says where [b] belongs.|"
      "Look at the order of concurrent inserts: b and c were inserted without knowing of each other, and were shown in two different orders. Use a rule that "
-     "gives the same order everywhere (such as the replicas' numbers), even in special cases such as appending; never the order of arrival."),
+     "gives the same order everywhere (such as the replicas' numbers), never the order of arrival; a short cut, as for appending, must keep to it too."),
     ("an insert between two that are deleted by others", 3, "0 ins a 0 : a|0 ins b 1 : a b|1 recv 0 2|2 recv 0 2|2 ins c 1 : a c b|1 del a : b|"
      "0 del b : a|1 recv 0 3|1 read :|1 ins d 0 : d|1 recv 2 1|1 read : c d|2 recv 1 3|2 read : d c",
      "[d] before [c]: line 16 of the trace, 2.2: replica 2 read the list, answered [d] [c]|"
@@ -408,7 +408,7 @@ WORDS = [
      "Look first at whether 0.2 (line 4) was lost on its way to replica 1, or overtaken: no receipt there names it, though all other changes of "
      "replica 0 have one. In an editor that sends positions, later changes then land in the wrong place.|"
      "Look at the order of concurrent inserts: c and y were inserted directly behind a without knowing of each other, and were shown in two different orders. Use a "
-     "rule that gives the same order everywhere (such as the replicas' numbers), even in special cases such as appending; never the order of arrival."
+     "rule that gives the same order everywhere (such as the replicas' numbers), never the order of arrival; a short cut, as for appending, must keep to it too."
      + stop(4, "replica 0 inserts b, and follow 0.2 to replica 1")),
     ("a delete that meets an insert and a delete which did not know each other", 2, "0 ins a 0 : a|0 ins b 1 : a b|0 ins c 2 : a b c|1 recv 0 3|"
      "1 read : a b c|0 del a : b c|1 ins d 3 : a b c d|0 recv 1 2|0 read : b c d|1 del c : a b d|0 recv 1 3|0 read : b c",
@@ -420,7 +420,7 @@ WORDS = [
      "writes the name of the element that was really deleted.|If the editor sends positions, the position of 1.2 was perhaps not adjusted for the insert of c by 0.3 (line 8), which the author of 1.2 had not seen." + stop(9, "replica 0 applies 1.2")),
     ("an insert that another one at its place has shifted", 2, "0 ins b 0 : b|0 ins c 0 : c b|1 ins a 0 : a|1 recv 0 1|1 read : a b|1 recv 0 2|"
      "1 read : a b c",
-     "When replica 0 inserted [c] (0.2, line 4), it had [b] already, and put [c] before it. That order must hold everywhere, but 1.3 (line 9) shows [c] behind [b]. Look at the message that replica 0 made for that insert, and at where replica 1 placed it in line 8. Often the clock that decides between inserts does not advance when changes arrive, or does not advance past the number of the last pasted element; or the neighbour is not found; or elements are stored in runs (blocks of several), and a run is split at a wrong offset. a was inserted at the same place as c concurrently: look also at which of the two comes first." + stop(8, "replica 1 applies 0.2", 6)),
+     "When replica 0 inserted [c] (0.2, line 4), it had [b] already, and put [c] before it. That order must hold everywhere, but 1.3 (line 9) shows [c] behind [b]. Look at the message that replica 0 made for that insert, and at where replica 1 placed it in line 8. Often the clock that decides between inserts does not advance when changes arrive, or advances past only the first element of a paste; or the neighbour is not found; or elements are stored in runs (blocks of several), and a run is split at a wrong offset. a was inserted at the same place as c concurrently: look also at which of the two comes first." + stop(8, "replica 1 applies 0.2", 6)),
     ("a receipt that comes before the change is applied", 2, "0 ins a 0 : a|1 recv 0 1|1 read : a|0 ins b 1 : a b|0 del a : b|1 recv 0 3|1 read : a",
      "contents 1.2: this response lacks one element that replica 1 should have had by then, and has one element that should not be there.||"
      "Where to look|"
@@ -472,7 +472,7 @@ WORDS = [
      "by then|it lacks a||The list specifications|for the whole trace: strong and weak fail"),
     ("a delete that meets an insert which did not know it", 2, "0 ins a 0 : a|0 ins b 1 : a b|0 ins c 2 : a b c|1 recv 0 3|1 read : a b c|1 del a : b c|"
      "0 ins d 2 : a b d c|1 recv 0 4|1 read : b c d",
-     "When replica 0 inserted [d] (0.4, line 9), it had [c] already, and put [d] before it. That order must hold everywhere, but 1.3 (line 11) shows [d] behind [c]. Look at the message that replica 0 made for that insert, and at where replica 1 placed it in line 10. Often the clock that decides between inserts does not advance when changes arrive, or does not advance past the number of the last pasted element; or the neighbour is not found; or elements are stored in runs (blocks of several), and a run is split at a wrong offset (the offset must count deleted elements too).|If the editor "
+     "When replica 0 inserted [d] (0.4, line 9), it had [c] already, and put [d] before it. That order must hold everywhere, but 1.3 (line 11) shows [d] behind [c]. Look at the message that replica 0 made for that insert, and at where replica 1 placed it in line 10. Often the clock that decides between inserts does not advance when changes arrive, or advances past only the first element of a paste; or the neighbour is not found; or elements are stored in runs (blocks of several), and a run is split at a wrong offset (the offset must count deleted elements too).|If the editor "
      "sends positions, the position of d was perhaps not adjusted for the delete of a by 1.2 (line 8), which replica 1 knew and the author of d did not." + stop(10, "replica 1 applies 0.4", 6)),
     ("a delete that becomes nothing beside an insert that its author did not know", 2, "0 ins a 0 : a|1 recv 0 1|1 read : a|0 del a :|"
      "1 ins b 0 : b a|1 recv 0 2|1 read : b a",
@@ -490,7 +490,7 @@ WORDS = [
      "element needs a new name; so does an element that comes back by undo, if it comes back as a new one.|"
      "If that name is the editor's own id, the editor made it twice: look at what makes ids. Usual causes: a clock that goes back when a change arrives, or "
      "at a restart; two replicas with the same number.||The list specifications|"
-     "neither the strong nor the weak one was judged: both tell elements apart by their names"),
+     "neither the strong nor the weak one was judged, since two elements have one name"),
 ]
 
 # The cycle of three, and by then all has arrived everywhere. With it other entries, and what the first of the words say where weak is enough.
@@ -509,7 +509,7 @@ FAILS_WEAK = [
     ("a wrong position after the cycle", f"{THREE_WAY}|2 ins c 0 : x c b|0 read : b", "position 2.2: ", [
         "When it went wrong", "line 12 of the trace, 2.2: replica 2 inserted c at position 0. Up to line 11 the weak specification holds; line 12 makes it "
         "`position 2.2`", "asked for: position 0; the answer has [x] there"]),
-    ("a name twice", "0 ins a 0 : a|1 ins a 0 : a", "doubled: ", ["neither the strong nor the weak one was judged: both tell elements apart by their names"])]
+    ("a name twice", "0 ins a 0 : a|1 ins a 0 : a", "doubled: ", ["neither the strong nor the weak one was judged, since two elements have one name"])]
 
 FIRST = ["First of all", "this trace has no recv line: `received` was never called, so no replica has heard of another; call it after each change that is applied"]
 # How many replicas, the entries, and whether this is said of it before all else.
@@ -663,8 +663,8 @@ WARNED = [
      "|".join(f"line {i + 4}, 0.{i + 1}: replica 0 deleted a{i}" + NO_INSERT.format(f"a{i}") for i in range(5))
      + "|and 2 more deletes of elements that no line inserts"),
     ("an insert past the end", 1, "0 ins a 0 : a|0 ins b 2 : a b|0 ins c 2 : a b c|0 ins d 4294967295 : a b c d",
-     f"line 4, 0.2: replica 0 inserted b at position 2, past the end of a list of length 1, so it counts as the end: was position 2 asked for?|"
-     f"line 6, 0.4: replica 0 inserted d at position 4294967295, past the end of a list of length 3, so it counts as the end: was position 4294967295 asked for?"),
+     f"line 4, 0.2: replica 0 inserted b at position 2, past the end of a list of length 1, so it counts as the end: is position 2 right?|"
+     f"line 6, 0.4: replica 0 inserted d at position 4294967295, past the end of a list of length 3, so it counts as the end: is position 4294967295 right?"),
     ("two that never hear of one another", 2, "0 ins a 0 : a|1 ins b 0 : b|0 read : a|1 read : b",
      f"in the end replicas 0 and 1 show different lists|replica 0 never hears of replica 1: {UNHEARD}|replica 1 never hears of replica 0: {UNHEARD}"),
     ("one that never hears of three others", 4, "0 ins a 0 : a|1 del a :|1 recv 0 1|2 ins c 0 : c|2 recv 1 1|2 recv 0 1|0 recv 2 1|"
@@ -1210,7 +1210,7 @@ def places(tally: Tally, program: str, folder: str) -> None:
     for name, wanted in FOR_TWO.items():
         got = explain(program, ["--language", name, "-"], text_of(2, "0 ins a 0 : a|0 ins b 1 : a b|1 recv 0 1|1 recv 0 2|1 read : a").encode()).out.decode()
         tally.check(f"a debugger: {name}, receipts that stand together", paragraph(got, "In a debugger").endswith(
-            f". It stops when 5 lines have been recorded, and at 4 in case one call of the recorder wrote lines 5 to 6.\n    {wanted}"), got)
+            f". It stops when 5 lines have been recorded, and at 4 in case one call recorded lines 5 to 6.\n    {wanted}"), got)
     undelivered(tally, program, folder)
     path.write_text(text_of(2, PLACED))
     for beside, wanted in NOTES:
@@ -1742,8 +1742,8 @@ def kinds(tally: Tally, program: str, folder: str) -> None:
 # By what is told first: the editor's kind, how many replicas there are, the entries, and the words.
 FIRST_TOLD = {
     "deletes that stop at another's element": ("neighbours", 2, "0 ins a 0 : a|0 ins b 1 : a b|1 recv 0 2|1 ins c 1 : a c b|0 del a : b|0 del b :|1 recv 0 4|1 read : c b",
-        "0.3 (line 7) was applied at replica 1, but not 0.4 (line 8), which was made right after that. If your editor sends all of these deletes as one change, it looks as if that was applied in part: look "
-        "first at whether the delete goes on past c, which stood between them in 1.1 (line 6) and which their author had not seen; then at what a replica does where one of several elements is gone"),
+        "0.3 (line 7) was applied at replica 1, but not 0.4 (line 8), which was made right after that. If your editor sends the deletes of a and b as one change, it looks as if that was applied in part: look "
+        "first at whether the delete goes on past c, which stood between these elements in 1.1 (line 6) and which replica 0 had not seen; then at what a replica does where one of several elements is gone"),
     "own changes on their way": ("positions", 3, "0 ins a 0 : a|1 recv 0 1|2 recv 0 1|1 read : a|2 read : a|1 ins b 1 : a b|1 del a : b|0 ins c 1 : a c|2 recv 0 2|2 read : a c|1 recv 0 2|1 read : b",
         "When 0.2 came in line 13, replica 1 had changes of its own on their way, which the author of 0.2 had not seen: the insert of b by 1.2 (line 8) and the delete of a by 1.3 (line 9). Replica 2 "
         "received 0.2 too, and shows c in 2.2 (line 12). So perhaps c was inserted rightly, and then removed by the delete of a. Look at how the replica's own changes that are still on their way are adjusted for an arriving change, and how that is adjusted for them (each for the unadjusted form of the other). If the editor takes its own changes back and applies them again, look at how it does that."),
@@ -1758,13 +1758,12 @@ FIRST_TOLD = {
     "a place from before what came": ("neighbours", 2, "0 ins a 0 : a|0 ins b 1 : a b|0 ins c 2 : a b c|0 ins d 3 : a b c d|1 recv 0 4|1 del a : b c d|0 recv 1 1|0 ins e 2 : b e c d",
         "[e] stands at the place that was position 2 in 0.4 (line 6). Since then replica 0 received the delete of a by 1.1 (line 8). Does the editor still use something from before that (a place, an offset, an index, a copy of the list)? Then every kind of change that arrives must update it."),
     "an order that a delete hides": ("neighbours", 3, "0 ins n 0 : n|1 ins o 0 : o|2 recv 0 1|2 recv 1 1|2 read : n o|2 ins l 1 : n l o|0 del n :|0 recv 1 1|0 read : o|0 recv 2 2|0 read : o l",
-        "[l] was put directly behind n (0.1 (line 3)), and n and [o] were inserted at the front without knowing of each other. n is deleted at replica 0, which never showed n and [o] together: perhaps it keeps these in another order than replica 2, and [l] follows n there. So look first at the order of the concurrent inserts n and [o]: at what is done in line 5, line 6 and line 10."),
+        "[l] was put directly behind n (0.1 (line 3)), and n and [o] were inserted at the front without knowing of each other. n is deleted at replica 0, which never showed n and [o] together: perhaps replica 0 keeps these in another order than replica 2, and puts [l] beside n. So look first at the order of the concurrent inserts n and [o]: at where the two were put when they arrived, in line 5, line 6 and line 10."),
     "one replica alone in its order": ("positions", 3, "2 ins a 0 : a|2 ins b 0 : b a|1 ins c 0 : c|2 recv 1 1|2 read : b c a|0 recv 1 1|0 recv 2 1|0 read : a c|1 recv 2 1|1 read : a c",
-        "Replicas 0 and 1 show a before c. Replica 2 alone shows them the other way round, first in 2.3 (line 7): so look first at what it did in line 6, when 1.1 came. When 1.1 arrived, replica 2 had two changes of its own on "
-        "their way: the insert of a by 2.1 (line 3) and the insert of b by 2.2 (line 4). 1.1 must be adjusted for the first of these, the result for the second, and so on. At each step also adjust the own "
+        "Replicas 0 and 1 show a before c. Replica 2 alone shows them the other way round, first in 2.3 (line 7): so look first at what it did in line 6, when 1.1 came. When 1.1 arrived, replica 2 had two changes of its own that the author of 1.1 did not know yet: the insert of a by 2.1 (line 3) and the insert of b by 2.2 (line 4). 1.1 must be adjusted for the first of these, the result for the second, and so on. At each step also adjust the own "
         "change of that step, for 1.1 as it was before the step. The same holds for changes in a buffer."),
     "one replica alone, with one change on its way": ("positions", 3, "2 ins a 0 : a|1 ins c 0 : c|2 recv 1 1|2 read : c a|0 recv 1 1|0 recv 2 1|0 read : a c|1 recv 2 1|1 read : a c",
-        "Replicas 0 and 1 show a before c. Replica 2 alone shows them the other way round, first in 2.2 (line 6): so look first at what it did in line 5, when 1.1 came. When 1.1 arrived, replica 2 had one change of its own on its way, the insert of a by 2.1 (line 3): this and 1.1 must each be adjusted for the other."),
+        "Replicas 0 and 1 show a before c. Replica 2 alone shows them the other way round, first in 2.2 (line 6): so look first at what it did in line 5, when 1.1 came. When 1.1 arrived, replica 2 had one change of its own that the author of 1.1 did not know yet, the insert of a by 2.1 (line 3): this and 1.1 must each be adjusted for the other."),
     "a delete that hits what came with it": ("positions", 2, "0 ins a 0 : a|0 ins b 1 : a b|0 del b : a|1 recv 0 3|1 read : b",
         "It looks as if 0.3 (line 5), applied at replica 1, deleted a instead of b"),
     "an insert into a deleted range": ("positions", 3, "2 ins a 0 : a|2 ins b 1 : a b|1 recv 2 2|1 read : a b|2 ins c 2 : a b c|2 ins e 1 : a e b c|2 del b : a e c|2 del c : a e|1 ins d 2 : a b d|"
@@ -1817,7 +1816,7 @@ def first_told(tally: Tally, program: str, folder: str) -> None:
     for kind, server in ("positions", ", and at what the server (if it adjusts positions) makes of that"), ("neighbours", ""):
         told = explain(program, ["--editor", kind, str(path)]).out.decode()
         tally.check(f"first told: {kind}: a delete that is wrong at two replicas", f"Replica 2 lacks b too, in 2.2 (line 13): so look first at what is sent{server}, and only then at replica 1. It looks as if" in told, told)
-    own = "When 0.2 arrived, replica 1 had two changes of its own on their way: the insert of b by 1.2 (line 6) and the delete of a by 1.3 (line 7). 0.2 must be adjusted for the first of these, the result for the second, and so on. At each step also adjust"
+    own = "When 0.2 arrived, replica 1 had two changes of its own that the author of 0.2 did not know yet: the insert of b by 1.2 (line 6) and the delete of a by 1.3 (line 7). 0.2 must be adjusted for the first of these, the result for the second, and so on. At each step also adjust"
     twice = "0 ins a 0 : a|1 recv 0 1|1 read : a|1 ins b 1 : a b|1 del a : b|0 del a :|1 recv 0 2|1 read :"
     for name, entries, lacks in ("alone", "", False), ("and a third that has got its delete", "|2 recv 1 3|2 recv 0 2|2 read :", False), ("and a third that hasn't", "|2 recv 1 2|2 recv 0 2|2 read :", True):
         path.write_text(text_of(3, twice + entries))
@@ -1870,7 +1869,7 @@ def first_told(tally: Tally, program: str, folder: str) -> None:
     for kind, line, doing in ("identifiers", 5, "replica 1 inserts b"), ("neighbours", 6, "replica 0 applies 1.1"):
         told = explain(program, ["--editor", kind, str(path)]).out.decode()
         tally.check(f"first told: {kind}: where an identifier is made: the debugger", f"\n  stop before line {line} of the trace, where {doing}; if nothing is wrong there, stop at" in told, told)
-    rivals = "b and a were inserted into one gap without knowing of each other. Which of them comes first must be decided by a rule that never ties (such as comparing the replicas' numbers, not the letters)"
+    rivals = "b and a were inserted into one gap without knowing of each other. Which of them comes first must be decided by a rule that never ties (such as comparing the replicas' numbers; inserted letters may be equal)"
     for what, entries, is_rival in (
             ("into nothing", "0 ins a 0 : a|1 ins b 0 : b|0 del a :|1 recv 0 1|1 read : b a|1 recv 0 2|1 read : a", True),
             ("beside what the other had not", "0 ins x 0 : x|0 ins a 1 : x a|1 ins c 0 : c|1 ins b 0 : b c|0 del a : x|1 recv 0 2|1 read : x b a c|1 recv 0 3|1 read : x a c", True),

@@ -1576,7 +1576,7 @@ LOST_ONE = "Unless it was still on its way, it was lost or is held back"
 LOST_SOME = "Unless they were still on their way, they were lost or are held back"
 OF_NOTHING = ("line {0}, 0.{1}: replica 0 deleted {2}, which no line inserts, so no response shows whether it was deleted: is {2} the "
               "right name, and was its insert recorded?")
-PAST_END = "line {0}, 0.{1}: replica 0 inserted {2} at position {3}, past the end of a list of length {4}, so it counts as the end: was position {3} asked for?"
+PAST_END = "line {0}, 0.{1}: replica 0 inserted {2} at position {3}, past the end of a list of length {4}, so it counts as the end: is position {3} right?"
 
 # Calls of accepted recordings, and what the verdict on each may hide.
 WARNED = [

@@ -37,10 +37,10 @@ SEARCH_MISSED = (" If the list is searched by identifiers, print those of the li
 OTHER_DELETE = (" Or it deleted another element, one that was already deleted there: look at how a replica that applies a delete finds the element (is the "
                 "whole id compared?).")
 CAME_BEFORE = (" If it arrived before the insert of {elements}, look at the place where deletes wait until their element arrives: a second one must not overwrite the first, and each must be tried again then.")
-WAITED_IN_PART = ("{first} {was} applied at replica {replica}, but not {then}, which {were} made right after that. If your editor sends all of these deletes as one change, it looks as if that was "
-                  "applied in part: look {past}at what a replica does where one of several elements is gone already, or has not come yet; and, if the change had to wait, at whether the editor checks "
-                  "what is still missing each time a missing element arrives.")
-PAST_OTHERS = "first at whether the delete goes on past {others}, which stood between them in {before} and which their author had not seen; then "
+WAITED_IN_PART = ("{first} {was} applied at replica {replica}, but not {then}, which {were} made right after that. If your editor sends the deletes of {elements} as one change, it looks as if that was "
+                  "applied in part: look {past}at what a replica does where one of several elements is gone already, or has not come yet; and, if your editor holds a delete back until its elements "
+                  "have arrived, at whether it tries again each time one of these arrives.")
+PAST_OTHERS = "first at whether the delete goes on past {others}, which stood between these elements in {before} and which replica {author} had not seen; then "
 IN_PART = ("{first} and {then} were made one after the other, and came to replica {replica} together; there {element} was deleted already, by {gone}, and {surplus} "
            "{is_} still shown. If your editor sends both deletes as one change, it looks as if that was applied in part: look at what a replica does where one of "
            "several elements is gone already; it must go on with the others.")
@@ -52,11 +52,11 @@ WRONG_DELETE = ("It looks as if {delete}, applied at replica {replica}, deleted 
                 "delete finds the element, and at whether the recorder writes the name of the element that was really deleted.")
 WRONG_LOCAL_DELETE = ("It looks as if {delete} deleted {missing} instead of {surplus}: look at how a local delete finds the element, and at whether the recorder writes the name of the element that was really deleted.")
 RIVALS = (" {missing} and {element} were inserted into one gap without knowing of each other. Which of them comes first must be decided by a rule that never ties (such as comparing the replicas' "
-          "numbers, not the letters) and is the same on client and server; else the delete hits the other one.")
+          "numbers; inserted letters may be equal) and is the same on client and server; else the delete hits the other one.")
 WRONG_POSITION = ("It looks as if {delete}, applied at replica {replica}, deleted {missing} instead of {surplus}: look at how the position of {name} is adjusted there; and at whether the recorder "
                   "writes the name of the element that was really deleted.")
 TIED = ("{one} and {two} were inserted at one place without knowing of each other, and are shown in two orders: {one} before {two} in {before}, {two} before {one} in {after}. "
-        "Look first at the order of concurrent inserts: it must be decided by a rule that never ties (such as comparing the replicas' numbers, not the letters). Where the order differs, a later "
+        "Look first at the order of concurrent inserts: it must be decided by a rule that never ties (such as comparing the replicas' numbers; inserted letters may be equal). Where the order differs, a later "
         "change by position hits another element.")
 MISNAMED = ("{deletes} delete{s} {named}; but {wrong}, while {missing}. Look at which ids a local delete puts into the change that it sends{several}.")
 NOT_SHOWN = "{element} does not stand in {before}{unknown}"
@@ -185,7 +185,7 @@ def waited_in_part(evidence: Evidence) -> list:
     if not others or any(change not in evidence.made_before(left_out[-1]) for change in left_out[:-1]):
         return []
     told = WAITED_IN_PART.format(first=listed(list(map(at, others)), MOST_TOLD), was="were" if others[1:] else "was", replica=operation.replica,
-                                 then=listed(list(map(at, left_out)), MOST_TOLD), were="were" if left_out[1:] else "was", past=past_others(evidence, others + left_out))
+                                 then=listed(list(map(at, left_out)), MOST_TOLD), were="were" if left_out[1:] else "was", elements=listed([change.element for change in others + left_out], MOST_TOLD), past=past_others(evidence, others + left_out))
     return [Cause("applied in part", told)]
 
 
@@ -195,7 +195,7 @@ def past_others(evidence: Evidence, deletes: list) -> str:
     names = before.response if before is not None else ()
     places = [names.index(delete.element) for delete in deletes if delete.element in names]
     others = [name for name in names[min(places, default=0):max(places, default=0)] if not any(map(deletes[0].has_seen, evidence.recording.inserts.get(name, [])))]
-    return PAST_OTHERS.format(others=listed(others, MOST_TOLD), before=at(before)) if others else ""
+    return PAST_OTHERS.format(others=listed(others, MOST_TOLD), before=at(before), author=deletes[0].replica) if others else ""
 
 
 def undelivered(evidence: Evidence) -> Cause:

@@ -10,11 +10,11 @@ from .positions import are_put_at_once, elements_before, list_of, met_inserts, n
 from .recordings import Operation, place_asked
 from .telling import at, counted, joined, listed
 
-NUMBERS_OF_INSERTS = (" Often the clock that decides between inserts does not advance when changes arrive, or does not advance past the number of the last pasted element; or the neighbour is not found; or "
+NUMBERS_OF_INSERTS = (" Often the clock that decides between inserts does not advance when changes arrive, or advances past only the first element of a paste; or the neighbour is not found; or "
                       "elements are stored in runs (blocks of several), and a run is split at a wrong offset{deleted}.")
 OF_INSERTS = {
     "": NUMBERS_OF_INSERTS, NEIGHBOURS: NUMBERS_OF_INSERTS, POSITIONS: " Client and server must adjust in the same way, and each change only once.", IDENTIFIERS: "",
-    TREE: " Often the clock that decides between children does not advance when changes arrive, or does not advance past the number of the last pasted element; or the parent is not the one that the "
+    TREE: " Often the clock that decides between children does not advance when changes arrive, or advances past only the first element of a paste; or the parent is not the one that the "
           "author meant{deleted}.",
 }
 DELETED_TOO = {"": " (the offset must count deleted elements too)", NEIGHBOURS: " (the offset must count deleted elements too)", TREE: ", as where the element beside it is deleted", IDENTIFIERS: "", POSITIONS: ""}
@@ -74,8 +74,8 @@ SETTLED_BY = {
                "each client, and at whether the two inserts and the delete of [{middle}] are processed in the same order everywhere.",
 }
 HIDDEN_ORDER = ("[{new}] was put directly {side} {hidden} ({insert}), and {hidden} and [{old}] were inserted{place} without knowing of each other. {hidden} is deleted at replica {replica}, which "
-                "never showed {hidden} and [{old}] together: perhaps it keeps these in another order than replica {author}, and [{new}] follows {hidden} there. So look first at the order of the "
-                "concurrent inserts {hidden} and [{old}]: at what is done in {lines}.")
+                "never showed {hidden} and [{old}] together: perhaps replica {replica} keeps these in another order than replica {author}, and puts [{new}] beside {hidden}. So look first at the order of the "
+                "concurrent inserts {hidden} and [{old}]: at where the two were put when they arrived, in {lines}.")
 PAST = ("If inserts find their place by a neighbour, look at how [{other}] found its place{there}: if the search goes past [{behind}], it must also go past all that was put behind [{behind}], also "
         "where these elements go on in the next block (if the list is kept in blocks).")
 INSIDE = ("{operation} shows [{new}] between [{left}] and [{right}], though [{one}] was put directly {side} [{beside}] by {insert}, which did not know of it. In a tree an element stands beside a "
@@ -86,15 +86,17 @@ BEHIND_UNKNOWN = "[{element}] was put directly behind [{behind}], which the auth
 BEHIND_DELETED = " Look also at inserts beside deleted elements: where [{behind}] was thrown away as deleted, nothing says where [{element}] belongs."
 CONCURRENT = ("Look at the order of concurrent inserts: {first} and {then} were inserted{place} without knowing of each other, and were shown "
               "in two different orders.{rule}{print}")
-RULE = (" Use a rule that gives the same order everywhere (such as the replicas' numbers), even in special cases such as appending; never the order of arrival.")
+RULE = (" Use a rule that gives the same order everywhere (such as the replicas' numbers), never the order of arrival; a short cut, as for appending, must keep to it too.")
 RULES = {"": RULE, NEIGHBOURS: RULE, IDENTIFIERS: "",
          POSITIONS: " At an equal position the same one must come first on each client, and on the server if it adjusts positions: look at which one your code puts first, for arriving changes and "
                     "for the replica's own ones that are still on their way.",
          TREE: " Children of one parent must stand in one order everywhere (such as by the replicas' numbers), and each with all that hangs on it."}
 PRINT = {  # what tells a fault of what is sent from one of how it is applied
     "": "", POSITIONS: " Client and server must adjust in the same way, and each change only once.",
-    NEIGHBOURS: " Print what replicas {one} and {other} store for these two elements (neighbour, number, author). If the two replicas differ, look at what is sent and what changes it later; if not, at how the place of an incoming insert is found.",
-    TREE: " Print what replicas {one} and {other} store for these two elements (parent, side, number, author). If the two replicas differ, look at what is sent and what changes it later; if not, at how children are ordered, and how the tree is walked.",
+    NEIGHBOURS: " Print what replicas {one} and {other} store for these two elements (neighbour, number, author). If the two replicas differ, look at what is sent and what changes it later; if "
+                "not, at how the place of an incoming insert is found.",
+    TREE: " Print what replicas {one} and {other} store for these two elements (parent, side, number, author). If the two replicas differ, look at what is sent and what changes it later; if not, "
+          "at how children are ordered, and how the tree is walked.",
     IDENTIFIERS: " Print both identifiers at replicas {one} and {other}: if one differs between these, look at what is sent; if the two are equal, at how they are made; else at how they are "
                  "compared, and at the search for a place.",
 }

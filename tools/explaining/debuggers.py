@@ -138,7 +138,7 @@ def statement(recording: Recording, entry: Operation | Receipt, language: str) -
     first = first_together(recording, entry)
     then, asked = f"It stops when {entry.line - 1} lines have been recorded", words.format(entry.line - 1)
     if first < entry.line:
-        then += f", and at {first - 1} in case one call of the recorder wrote lines {first} to {entry.line}"
+        then += f", and at {first - 1} in case one call recorded lines {first} to {entry.line}"
         asked = FOR_TWO[language].format(first - 1, entry.line - 1)
     return [f"In {name}, put the next line {READS if is_read else BEGINS}. {then}.", f"  {asked}"]
 

@@ -24,7 +24,7 @@ IN_WORDS = {
     BESIDE: "an insert arrived whose neighbour was deleted there",
     NAMES_GONE: "a change arrived that deletes, or stands beside, an element which was deleted there",
     TOGETHER: "several changes arrived at once",
-    AFTER_SEVERAL: "a change arrived whose author had received several messages since its own last change",
+    AFTER_SEVERAL: "a change arrived whose author had received several messages since its own last change (if it acknowledges these: is just that taken out of the queue?)",
     UNSEEN["ins", "ins"]: "an insert arrived whose author had not seen an insert that the receiver had",
     UNSEEN["ins", "del"]: "an insert arrived whose author had not seen a delete that the receiver had",
     UNSEEN["del", "ins"]: "a delete arrived whose author had not seen an insert that the receiver had",
@@ -208,7 +208,7 @@ def standing_out(failing: list, passing: list) -> list:
             found.append(Telling(weight(count / len(failing), others, len(passing)), name, count, False, f"also in {others} of those that pass"))
         count, others = sum(name in session.last for session in failing), sum(name in one for one in lists)
         if len(lists) >= FEWEST_LISTS and count >= MANY_LISTS * len(failing):
-            found.append(Telling(weight(count / len(failing), others, len(lists)), name, count, True, f"also before {round(100 * others / len(lists))} % of the lists that are right"))
+            found.append(Telling(weight(count / len(failing), others, len(lists)), name, count, True, f"also before {round(100 * others / len(lists))} % of the correct lists"))
     least = max(TELLING, -log(BY_CHANCE) / len(failing))
     general = set().union(*GENERAL.values())
     told = []
@@ -234,7 +234,7 @@ def in_common(rows: list) -> list:
         return []
     passing, lines = sessions(right, False), []
     for one in standing_out(failing, passing):
-        which = "each" if one.count == len(failing) else f"{one.count} of them"
+        which = f"all {one.count}" if one.count == len(failing) else f"{one.count} of the {len(failing)}"
         lines.append(f"  {'right before' if one.is_right_before else 'before'} {which}: {IN_WORDS[one.name]} ({one.others})")
     without = unneeded(failing) if lines else []
     lines += [f"  not needed: {', '.join(without)}"] if without else []

@@ -109,7 +109,7 @@ def hidden(trace: bytes) -> tuple:
             before = words[4].count(b" ") - 1  # names in the list before it
             if int(words[3]) > before:
                 past_end.append(f"line {line}, {replica}.{n}: replica {replica} inserted {words[2].decode()} at position "
-                                f"{words[3].decode()}, past the end of a list of length {before}, so it counts as the end: was position {words[3].decode()} asked for?")
+                                f"{words[3].decode()}, past the end of a list of length {before}, so it counts as the end: is position {words[3].decode()} right?")
         elif kind == b"del":
             deletes.append((words[2], f"line {line}, {replica}.{n}: replica {replica} deleted {words[2].decode()}, which no line inserts, "
                             f"so no response shows whether it was deleted: is {words[2].decode()} the right name, and was its insert recorded?"))

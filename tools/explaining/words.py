@@ -70,7 +70,7 @@ def specifications(report: dict, is_of_whole: bool) -> Section:
     """What the verdict says by definition, which a user need not know to mend the editor; where all before is of a beginning, of what this is."""
     holds = {True: "holds", False: "fails"}
     if "strong" not in report:
-        told = "neither the strong nor the weak one was judged: both tell elements apart by their names"
+        told = "neither the strong nor the weak one was judged, since two elements have one name"
     elif report["strong"] == report["weak"]:
         told = f"strong and weak {'hold' if report['strong'] else 'fail'}"
     else:
