@@ -4,8 +4,12 @@
 Layers of elements are shown each before the next, and the last before the first, in one ring or two, with a view now and then that
 leads back, ahead or out of order. So most cycles are long, thousands of elements pairs are shown, and the program searches over lists
 or over a table, from some elements alone. The reports must be the same, byte for byte. The finder goes by the definitions: from each
-element it searches by levels, over sets of what stands after each."""
+element it searches by levels, over sets of what stands after each.
+
+Then long documents (bench/shapes) must be refused in seconds: the program guesses which elements are on cycles, and tests the guess.
+Where that were wrong, it would answer the same, but only after a search from each element."""
 import random
+import subprocess
 import sys
 from collections import Counter
 from pathlib import Path
@@ -20,6 +24,12 @@ RECORDINGS = 160
 
 # So many of them at least must be of each kind, or the script fails.
 WANTED = {"accepted": 4, "refused 2": 12, "refused 3 to 9": 30, "refused 10 and more": 50, "searched over lists": 40, "of more than 64 elements": 80}
+
+
+# Documents of 32,768 elements: the script of the shape, its words, and the conflict number. Each is judged in a fraction of a second; a
+# search from each element would look some 10 ** 10 times.
+LONG = [("front.py", ["8", "16", "256", "8"], 8), ("front.py", ["8", "16", "256", "8", "closed"], 8)]
+MOST_SECONDS = 15
 
 
 class Trace:
@@ -248,6 +258,18 @@ def kinds_of(trace: Trace, answer: Found) -> list:
     return kinds + ["refused 3 to 9" if answer.k < 10 else "refused 10 and more"]
 
 
+def long_documents(tally: Tally, program: str) -> None:
+    """The components of these are guessed right at once."""
+    for script, words, k in LONG:
+        trace = subprocess.run([sys.executable, str(ROOT / "bench" / "shapes" / script), *words], capture_output=True, check=True).stdout
+        try:
+            done = subprocess.run([program, "verdict", "-"], input=trace, capture_output=True, timeout=MOST_SECONDS)
+            told = done.returncode, done.stdout.split(b"\n")[1:2]
+        except subprocess.TimeoutExpired:
+            told = f"no answer within {MOST_SECONDS} seconds"
+        tally.same(f"{' '.join([script, *words])} is refused at once", told, (1, [f"refused {k}".encode()]))
+
+
 def main() -> None:
     program = Quick(program_of(sys.argv))
     tally = Tally()
@@ -263,6 +285,7 @@ def main() -> None:
     print(", ".join(f"{kinds[kind]} {kind}" for kind in WANTED))
     for kind, least in WANTED.items():
         tally.check(f"recordings {kind}", kinds[kind] >= least, kinds[kind])
+    long_documents(tally, program_of(sys.argv))
     tally.close()
 
 

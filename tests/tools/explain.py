@@ -1764,6 +1764,10 @@ FIRST_TOLD = {
         "change of that step, for 1.1 as it was before the step. The same holds for changes in a buffer."),
     "one replica alone, with one change on its way": ("positions", 3, "2 ins a 0 : a|1 ins c 0 : c|2 recv 1 1|2 read : c a|0 recv 1 1|0 recv 2 1|0 read : a c|1 recv 2 1|1 read : a c",
         "Replicas 0 and 1 show a before c. Replica 2 alone shows them the other way round, first in 2.2 (line 6): so look first at what it did in line 5, when 1.1 came. When 1.1 arrived, replica 2 had one change of its own that the author of 1.1 did not know yet, the insert of a by 2.1 (line 3): this and 1.1 must each be adjusted for the other."),
+    "an order that its author knew, with one change on its way": ("positions", 2, "0 ins a 0 : a|1 recv 0 1|1 read : a|1 ins c 1 : a c|0 ins b 0 : b a|1 recv 0 2|1 read : a b c",
+        "When replica 0 inserted [b] (0.2, line 7), it had [a] already, and put [b] before it. That order must hold everywhere, but 1.3 (line 9) shows [b] behind [a]. Look at the message that replica 0 made "
+        "for that insert, and at where replica 1 placed it in line 8. Client and server must adjust in the same way, and each change only once. When 0.2 arrived, replica 1 had one change of its own that the author of 0.2 did not "
+        "know yet, the insert of c by 1.2 (line 6): this and 0.2 must each be adjusted for the other."),
     "a delete that hits what came with it": ("positions", 2, "0 ins a 0 : a|0 ins b 1 : a b|0 del b : a|1 recv 0 3|1 read : b",
         "It looks as if 0.3 (line 5), applied at replica 1, deleted a instead of b"),
     "an insert into a deleted range": ("positions", 3, "2 ins a 0 : a|2 ins b 1 : a b|1 recv 2 2|1 read : a b|2 ins c 2 : a b c|2 ins e 1 : a e b c|2 del b : a e c|2 del c : a e|1 ins d 2 : a b d|"

@@ -242,7 +242,7 @@ def unlike_receipts(evidence: Evidence) -> list:
     if left_out and added:
         return []
     replica = evidence.operations[0].replica
-    waited = waited_in_part(evidence)
+    waited = waited_in_part(evidence) if evidence.in_part is None else []
     return tied_first([Cause(name, look.format(replica=replica, other=other_than(evidence, changes) if not waited else "",
                                          elsewhere=elsewhere(evidence, changes[0]) if not waited and evidence.in_part is None else "",
                                          later=later(evidence, changes), **changes_told(changes)))

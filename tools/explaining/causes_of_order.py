@@ -7,7 +7,7 @@ from .cause import ALONE, BY_ITSELF, MOST_MET, MOST_TOLD, OWN_ADJUSTED, Cause, a
 from .evidence import Evidence
 from .kinds import BY_ELEMENTS, IDENTIFIERS, NEIGHBOURS, POSITIONS, TREE, is_possible
 from .positions import are_put_at_once, elements_before, list_of, met_inserts, neighbours, put_there_at_once
-from .recordings import Operation, place_asked
+from .recordings import Operation, Receipt, place_asked
 from .telling import at, counted, joined, listed
 
 NUMBERS_OF_INSERTS = (" Often the clock that decides between inserts does not advance when changes arrive, or advances past only the first element of a paste; or the neighbour is not found; or "
@@ -382,7 +382,13 @@ def seen(evidence: Evidence, later: Operation, old: Operation, is_numbered: bool
     told = put_beside(evidence, later, old)
     return SEEN.format(**told, operation=at(unlike), other_side="behind" if told["side"] == "before" else "before",
                        look=look.format(author=later.replica, replica=unlike.replica, arrived=arrived), numbers=of_inserts(evidence, unlike) if is_numbered else "",
-                       let_out=let_out(evidence, later, old) if is_numbered else "")
+                       let_out=let_out(evidence, later, old) if is_numbered else "") + own_then(evidence, arrival)
+
+
+def own_then(evidence: Evidence, arrival: Receipt | None) -> str:
+    """Where changes carry positions, which changes of its own a replica had on their way when an insert came that it shows elsewhere; if it had any."""
+    is_told = evidence.kind == POSITIONS and arrival is not None and evidence.on_their_way(arrival)
+    return f" {on_way_then(evidence, arrival)}".rstrip() if is_told else ""
 
 
 def put_beside(evidence: Evidence, later: Operation, old: Operation) -> dict:
