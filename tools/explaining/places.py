@@ -111,9 +111,9 @@ def without_statement(section: Section, places: dict) -> Section:
     """The section; that on a debugger with the log's line, if there is one, in the place of a statement."""
     if section.title != debuggers.TITLE:
         return section
-    (told,) = section.lines
+    told = section.lines[0]
     stop = int(LINE.search(told)[1])
-    return Section(section.title, [told.partition(" In ")[0] + (f" The editor then writes {places[stop]}." if stop in places else "")])
+    return Section(section.title, [told + (f" The editor then writes {places[stop]}." if stop in places else "")])
 
 
 def placed_warnings(warnings: list, known: Beside) -> list:
