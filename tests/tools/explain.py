@@ -1034,7 +1034,7 @@ def sooner(tally: Tally, program: str, text: str, report: dict, said: str) -> tu
     headline, is_other = said.splitlines()[0], of_whole != of_first
     tally.check("a fault: its headline", headline.startswith(of_first.partition(" ")[0]) and headline.endswith(
         f" This fault comes first, in lines 1 to {count}: start with it. The whole trace has another verdict, `{of_whole}`, which is explained below.") == is_other
-                and ("the whole trace" in headline) == is_other, f"{text}{report}\n{said}")
+                and ("whole trace" in headline) == is_other, f"{text}{report}\n{said}")
     tally.check("a fault: what the whole trace names", bool(paragraph(said, "What the verdict on the whole trace is about")) == is_other,
                 f"{text}{report}\n{said}")
     return first, wanted
@@ -2374,7 +2374,7 @@ def many_deletes(tally: Tally, program: str, folder: str) -> None:
              "contents 0.2: this response has one element that should not be there.", 12)):
         trace.write_text(text_of(2, entries))
         got, seconds, _ = used([EXPLAIN, "--program", program, "--html", f"{folder}/page.html", "--small", f"{folder}/small", str(trace)])
-        tally.check(f"many deletes: {name}", got.status == 1 and got.out.decode().startswith(f"{said}\n") and f"in {lines} lines of".encode() in got.out
+        tally.check(f"many deletes: {name}", got.status == 1 and got.out.decode().startswith(f"{said}\n") and f"in {lines} lines instead of".encode() in got.out
                     and seconds < 6, (got.out[:200], got.out[-200:], seconds))
 
 
@@ -2452,7 +2452,7 @@ def small(tally: Tally, program: str, folder: str) -> None:
             wrong["turned"] += bool(turned)
             look = paragraph(said, "Where to look").splitlines()
             is_lost = re.match(r"  Look first at whether \S+ \(line (\d+)\)", look[0])
-            alone = next(filter(None, (re.match(r"  Replica \d+ inserted \[\S+\] \(\S+, line (\d+)\) .*?\. No other replica shows them so\. After its next receipt \(line (\d+)\)", line) for line in look)), None)
+            alone = next(filter(None, (re.match(r"  Replica \d+ inserted \[\S+\] \(\S+, line (\d+)\) .*?\. No other replica shows them in this order\. After its next receipt \(line (\d+)\)", line) for line in look)), None)
             if is_lost:
                 stop_lines = [int(is_lost[1])]
             elif alone:
@@ -2541,7 +2541,7 @@ def weak(tally: Tally, program: str, folder: str) -> None:
     """Where weak is enough: what is said first, the status, what is warned of, and where a session went wrong that fails. All else stays."""
     trace = text_of(3, ALL_ARRIVED).encode()
     without, got = (explain(program, [*goal, "-"], trace) for goal in ([], ["--weak"]))
-    asks, rest = re.subn(rb"  An editor whose server orders .* in the tools by --weak\.\n", b"", without.out)[::-1]
+    asks, rest = re.subn(rb"  An editor whose server orders .* which asks for the weak specification alone\.\n", b"", without.out)[::-1]
     tally.same("weak: it passes, and the explanation follows, but for how to ask for it", (asks, got), (1, Ended(0, ALONE.encode() + rest.replace(
         b"When it showed", b"When strong came to fail"), b"")))
     tally.check("weak: not asked for", without.status == 1 and without.out.startswith(b"refused 3: "), without)
