@@ -1,6 +1,6 @@
--- Counts of edges, entry by entry, and what an insert adds to a set's keys.
+-- Counts of edges, and what an insert adds to a set's keys.
 use Rattle.std.proofs.Common.{◌≡◌, ◌≢◌, ℕ, ◌+◌, ◌-◌, ◌<◌, ◌≤◌, ◌⊎◌, inl, inr, Bool, true, false, cond, eqb}
-use Rattle.std.proofs.Common.{List, [], ◌∷◌, length, get_or, set, take, refl, sym, ◌∙◌, arith, ap, subst}
+use Rattle.std.proofs.Common.{List, [], ◌∷◌, length, get_or, set, refl, sym, ◌∙◌, arith, ap, subst}
 use Rattle.std.proofs.Common.{get_or-set_same, get_or-set_other}
 use Rattle.std.specs.Prelude.{◌↔◌, Contains}
 use Rattle.std.specs.Ordering.{nat_cmp, match_ordering}
@@ -10,17 +10,9 @@ use Rattle.std.specs.BTreeSet.{insert_key}
 use Rattle.std.proofs.lemmas.Bool.{eq-eqb}
 use Rattle.std.proofs.lemmas.Bool.Decides.{eqb_tells}
 use Rattle.std.proofs.lemmas.Map.Lookups.{exact_unsigned}
-use Rattle.std.proofs.lemmas.List.Sums.{sum_by-cons, sum_by_more, sum_by-take-le}
+use Rattle.std.proofs.lemmas.List.Sums.{sum_by-cons}
 use Rattle.specification.proofs.Members.{In, In-from_Contains, Contains-from_In}
 use Rattle.witness_order.specs.Edges.{occurrences}
-
--- one entry more
-pub occurrences-more : (xs : List ℕ) (i y : ℕ) → i < length xs
-    → occurrences (take (i + 1) xs) y ≡ occurrences (take i xs) y + cond (eqb (get_or xs i 0) y) 1 0
-occurrences-more xs i y lt = sum_by_more (λ (z : ℕ). cond (eqb z y) 1 0) xs i 0 lt
-
-pub occurrences-take : (xs : List ℕ) (i y : ℕ) → occurrences (take i xs) y ≤ occurrences xs y
-occurrences-take xs i y = sum_by-take-le (λ (z : ℕ). cond (eqb z y) 1 0) xs i
 
 -- what is counted is there, and what is there is counted
 pub occurrences-In : (xs : List ℕ) (y : ℕ) → 1 ≤ occurrences xs y → In y xs

@@ -1,85 +1,11 @@
--- What one more entry, one more place and one more list add to the lists of successors.
-use Rattle.std.proofs.Common.{◌≡◌, ℕ, ◌+◌, ◌-◌, ◌<◌, ◌≤◌, ◌⊎◌, inl, inr, List, [], ◌∷◌, ◌++◌, Vec, Global}
-use Rattle.std.proofs.Common.{length, get_or, set, replicate, sym, ◌∙◌, ap, subst, arith, get_or-set_same}
-use Rattle.std.proofs.Common.{get_or-set_other, length-append}
-use Rattle.std.specs.Prelude.{◌↔◌, Contains}
-use native.Mathlib.Decide.{ℕ_discrete}
+-- What one more place and one more list add to what stands right after each element.
+use Rattle.std.proofs.Common.{◌≡◌, ℕ, ◌+◌, ◌-◌, ◌<◌, ◌≤◌, ◌⊎◌, inl, inr, List, [], length, get_or, sym, ◌∙◌}
+use Rattle.std.proofs.Common.{ap, subst, arith}
+use Rattle.std.specs.Prelude.{◌↔◌}
 use Rattle.std.proofs.lemmas.Bool.{cases_lt}
-use Rattle.std.proofs.lemmas.List.{map-set, get_or-map, get_or-replicate, get_or_past, length-map}
-use Rattle.std.proofs.lemmas.List.{length-replicate}
+use Rattle.std.proofs.lemmas.List.{get_or_past}
 use Rattle.order_graph.specs.Lists.{row, Stands}
-use Rattle.witness_order.specs.Edges.{lists_in, IsNext, AreNeighbours, AreLastListed}
-
--- the list in a vector
-pub row-vector : (vectors : List (Vec ℕ Global)) (x : ℕ) (v : Vec ℕ Global) → x < length vectors
-    → v ≡ get_or vectors x v → row (lists_in vectors) x ≡ v.items
-row-vector vectors x v lt is = get_or-map (λ (v : Vec ℕ Global). v.items) vectors x v [] lt
-    ∙ ap (λ (v : Vec ℕ Global). v.items) (sym is)
-
-pub row-empty : (n x : ℕ) → row (replicate n []) x ≡ []
-row-empty n x = elim (cases_lt x n) as (λ _. row (replicate n []) x ≡ []) [
-  | inl lt ↦ get_or-replicate n x [] [] lt
-  | inr le ↦
-      get_or_past (replicate n []) x [] (let e : length (replicate {A = List ℕ} n []) ≡ n =
-      length-replicate n [] in omega (arith, e, le))
-]
-
--- with one entry more in a list, no list is longer by more
-module _ (vectors : List (Vec ℕ Global)) (x y : ℕ) (v w : Vec ℕ Global) (within : x < length vectors)
-    (is : v ≡ get_or vectors x v) (pushed : w.items ≡ v.items ++ y ∷ []) where
-  pub length-more : (z : ℕ)
-      → length (row (lists_in (set vectors x w)) z) ≤ length (row (lists_in vectors) z) + 1
-  length-more z = elim (ℕ_discrete z x) [
-    | yes e ↦
-        let there : x < length (lists_in vectors) =
-        subst (λ n. x < n) (sym (length-map vectors (λ (v : Vec ℕ Global). v.items))) within in
-        let new : row (lists_in (set vectors x w)) z ≡ v.items ++ y ∷ [] =
-        after ∙ ap (λ k. row (set (lists_in vectors) x w.items) k) e
-        ∙ get_or-set_same (lists_in vectors) x w.items [] there ∙ pushed in
-        let old : row (lists_in vectors) z ≡ v.items =
-        ap (row (lists_in vectors)) e ∙ row-vector vectors x v within is in
-        omega (
-          arith,
-          ap (λ (l : List ℕ). length l) new,
-          ap (λ (l : List ℕ). length l) old,
-          length-append v.items (y ∷ []),
-        )
-    | no other ↦
-        let same : row (lists_in (set vectors x w)) z ≡ row (lists_in vectors) z =
-        after ∙ get_or-set_other (lists_in vectors) x z w.items [] other in
-        omega (arith, ap (λ (l : List ℕ). length l) same)
-  ]
-    where
-      after : row (lists_in (set vectors x w)) z ≡ row (set (lists_in vectors) x w.items) z
-      after = ap (λ l. row l z) (map-set (λ (v : Vec ℕ Global). v.items) vectors x w)
-
--- the last entry is the new one
-pub listed-more : (n x y : ℕ) (old new : List (List ℕ)) (last : List ℕ) → x < length last →
-    ((z w : ℕ) → Contains (row new z) w ↔ (Contains (row old z) w ⊎ ((z ≡ x) × (w ≡ y))))
-    → AreLastListed n old last → AreLastListed n new (set last x y)
-listed-more n x y old new last within more were z lt known = elim (ℕ_discrete z x) [
-  | yes e ↦
-      (more z (get_or (set last x y) z 0)).1
-      (inr (e, ap (λ k. get_or (set last x y) k 0) e ∙ get_or-set_same last x y 0 within))
-  | no other ↦
-      let same : get_or (set last x y) z 0 ≡ get_or last z 0 = get_or-set_other last x z y 0 other in
-      (more z (get_or (set last x y) z 0)).1
-      (inl (subst (λ k. Contains (row old z) k) (sym same) (were z lt (subst (λ k. k < n) same known))))
-]
-
--- what is the last entry already is in the list
-pub listed-again : (n x y : ℕ) (old : List (List ℕ)) (last : List ℕ) → x < n → y < n → get_or last x 0 ≡ y
-    → AreLastListed n old last →
-    (z w : ℕ) → Contains (row old z) w ↔ (Contains (row old z) w ⊎ ((z ≡ x) × (w ≡ y)))
-listed-again n x y old last within known is were z w = (
-  λ c. inl c,
-  λ s. elim s [
-    | inl c ↦ c
-    | inr p ↦
-        subst (λ k. Contains (row old k) w) (sym p.0) (subst (λ k. Contains (row old x) k) (is ∙ sym p.1)
-        (were x within (subst (λ k. k < n) (sym is) known)))
-  ],
-)
+use Rattle.witness_order.specs.Edges.{IsNext, AreNeighbours}
 
 -- y stands right after x in the list, at a lesser place than j
 abbrev pub IsNextBelow : List ℕ → ℕ → ℕ → ℕ → Type 0

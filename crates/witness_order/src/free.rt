@@ -5,14 +5,15 @@ ghost use Rattle.std.specs.Prelude.{IfNone, IfSome, if◌then◌else◌, length,
 ghost use Rattle.std.specs.Prelude.{slice_set, vec_len};
 ghost use Rattle.std.specs.Ordering.{nat_cmp};
 ghost use Rattle.std.specs.BTreeSet.{insert_key};
-ghost use Rattle.witness_order.specs.Edges.{occurrences};
+ghost use Rattle.witness_order.specs.Edges.{occurrences, linked_from, AreFalling};
 
+use super::successors::Edge;
 use events::Memory;
 use std::alloc::Global;
 use std::collections::BTreeSet;
 
 /// The elements that stand right after no other: those with a count of 0.
-pub fn free_elements(alloc: Global, indegrees: &[u64]) -> Result<BTreeSet<u32>, Memory>
+pub fn free_elements(alloc: Global, indegrees: &[u32]) -> Result<BTreeSet<u32>, Memory>
     requires { length indegrees.now < 2 ^ 32 }
     ensures { IfOk result (λ s. (x : ℕ) → Contains s.keys x
         ↔ ((x < length indegrees.now) × (slice_index indegrees.now x ≡ 0))) }
@@ -36,7 +37,7 @@ pub fn take_least(free: &mut BTreeSet<u32>) -> Option<u32>
 }
 
 /// Lowers an element's count, which is not 0, by one. At 0 the element is free.
-fn lower(indegrees: &mut Vec<u64>, free: &mut BTreeSet<u32>, y: u32) -> Result<(), Memory>
+fn lower(indegrees: &mut Vec<u32>, free: &mut BTreeSet<u32>, y: u32) -> Result<(), Memory>
     requires known { y < vec_len indegrees.old }
     requires some { 0 < slice_index indegrees.old.items y }
     ensures size { vec_len indegrees.new ≡ vec_len indegrees.old }
@@ -54,25 +55,31 @@ fn lower(indegrees: &mut Vec<u64>, free: &mut BTreeSet<u32>, y: u32) -> Result<(
     Ok(())
 }
 
-/// Lowers the counts of the successors of an element, as often as they are listed. What comes to 0 is free.
+/// Lowers the counts of what a linked list of edges leads to, by one for each edge. What comes to 0 is free.
 pub fn remove_edges(
-    successors: &[u32],
-    indegrees: &mut Vec<u64>,
+    edges: &[Edge],
+    head: u32,
+    indegrees: &mut Vec<u32>,
     free: &mut BTreeSet<u32>,
 ) -> Result<(), Memory>
-    requires known { All (λ y. y < vec_len indegrees.old) successors.now }
+    requires falling { AreFalling edges.now }
+    requires head { head ≤ length edges.now }
+    requires known { All (λ y. y < vec_len indegrees.old) (linked_from edges.now head) }
     requires counted { (y : ℕ) → y < vec_len indegrees.old
-        → occurrences successors.now y ≤ slice_index indegrees.old.items y }
+        → occurrences (linked_from edges.now head) y ≤ slice_index indegrees.old.items y }
     ensures size { vec_len indegrees.new ≡ vec_len indegrees.old }
     ensures lowered { OnOk result ((y : ℕ) → y < vec_len indegrees.old
-        → slice_index indegrees.new.items y + occurrences successors.now y
+        → slice_index indegrees.new.items y + occurrences (linked_from edges.now head) y
         ≡ slice_index indegrees.old.items y) }
     ensures free { OnOk result ((y : ℕ) → Contains free.new.keys y ↔ (Contains free.old.keys y
         ⊎ ((y < vec_len indegrees.old) × (0 < slice_index indegrees.old.items y)
         × (slice_index indegrees.new.items y ≡ 0)))) }
 {
-    for y in successors {
-        lower(indegrees, free, *y)?;
+    let mut number = head;
+    while number != 0 {
+        let edge = edges[number as usize - 1];
+        lower(indegrees, free, edge.to)?;
+        number = edge.next;
     }
     Ok(())
 }

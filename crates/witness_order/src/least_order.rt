@@ -2,16 +2,14 @@
 
 ghost use Rattle.std.specs.Prelude.{◌≡◌, ℕ, ◌<◌, All, IfOk, IsTrue, MatchOption, length, vec_len};
 ghost use Rattle.std.specs.Prelude.{slice_index, Contains, ◌↔◌};
-ghost use Rattle.std.specs.List.{range_with_len};
 ghost use Rattle.specification.specs.Orders.{IsLeastOrder, HasNoOrder};
 ghost use Rattle.order_graph.specs.Kept.{names_at};
 ghost use Rattle.order_graph.specs.Lists.{lists_of};
-ghost use Rattle.witness_order.specs.Edges.{lists_in, indegree, AreSuccessors};
+ghost use Rattle.witness_order.specs.Edges.{lists_in, AreSuccessors, AreKept};
 ghost use Rattle.witness_order.specs.Taken.{AreTaken};
 
 use super::free::{free_elements, remove_edges, take_least};
-use super::indegrees::indegrees_of;
-use super::successors::successors_of;
+use super::successors::{Successors, successors_of};
 use events::{Memory, Name};
 use order_graph::OrderGraph;
 use std::alloc::Global;
@@ -22,23 +20,26 @@ use witnesses::Order;
 fn taken_in_turn(
     alloc: Global,
     graph: &OrderGraph,
-    successors: &[Vec<u32>],
-    mut indegrees: Vec<u64>,
+    successors: Successors,
     mut free: BTreeSet<u32>,
 ) -> Result<Vec<u32>, Memory>
     requires successors { AreSuccessors (lists_of graph.now) (length graph.now.elements)
-        (lists_in successors.now) }
-    requires size { vec_len indegrees ≡ length graph.now.elements }
-    requires counted { (y : ℕ) → y < length graph.now.elements
-        → slice_index indegrees.items y ≡ indegree (lists_in successors.now)
-        (range_with_len 0 (length graph.now.elements)) y }
+        (lists_in successors) }
+    requires kept { AreKept successors }
+    requires count { vec_len successors.heads ≡ length graph.now.elements }
     requires free { (x : ℕ) → Contains free.keys x
-        ↔ ((x < length graph.now.elements) × (slice_index indegrees.items x ≡ 0)) }
+        ↔ ((x < length graph.now.elements) × (slice_index successors.indegrees.items x ≡ 0)) }
     ensures { IfOk result (λ v. AreTaken graph.now v.items) }
 {
+    let Successors {
+        edges,
+        heads,
+        mut indegrees,
+    } = successors;
     let mut taken = Vec::with_capacity(alloc, graph.elements() as usize)?;
     while let Some(x) = take_least(&mut free) {
-        remove_edges(successors[x as usize].as_slice(), &mut indegrees, &mut free)?;
+        let head = heads[x as usize];
+        remove_edges(edges.as_slice(), head, &mut indegrees, &mut free)?;
         taken.push(x)?;
     }
     Ok(taken)
@@ -70,18 +71,17 @@ fn names_of(alloc: Global, graph: &OrderGraph, numbers: &[u32]) -> Result<Vec<Na
 /// follows every response; else neither the elements of a cycle nor what stands after one are among them.
 /// None is among them twice. Where they are all elements, they stand in the least order.
 ///
-/// Time: one pass over the places of all responses, which lists what stands right after each element; at most
-/// two looks at each entry of these lists; and each element once into and out of an ordered set. An element
-/// gets an entry at each place where what stands right after it is not what its last entry says: so there are
-/// no more entries than places, and few where responses mostly repeat one another. Memory: linear in the
-/// elements and these entries.
+/// Time: one pass over the places of all responses, which lists an edge from each element to what stands
+/// right after it; one look more at each edge; and each element once into and out of an ordered set. An
+/// element gets an edge at each place where what stands right after it is not where its last edge leads: so
+/// there are no more edges than places, and few where responses mostly repeat one another. Memory: linear in
+/// the elements and these edges.
 pub fn taken(alloc: Global, graph: &OrderGraph) -> Result<Vec<u32>, Memory>
     ensures { IfOk result (λ v. AreTaken graph.now v.items) }
 {
     let successors = successors_of(alloc, graph)?;
-    let indegrees = indegrees_of(alloc, successors.as_slice())?;
-    let free = free_elements(alloc, indegrees.as_slice())?;
-    taken_in_turn(alloc, graph, successors.as_slice(), indegrees, free)
+    let free = free_elements(alloc, successors.indegrees.as_slice())?;
+    taken_in_turn(alloc, graph, successors, free)
 }
 
 /// The least order of the elements that follows every response, by dictionary order of their numbers; none

@@ -6,7 +6,6 @@
 #![tactic(auto)]
 
 mod free;
-mod indegrees;
 mod least_order;
 mod successors;
 

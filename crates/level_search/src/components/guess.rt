@@ -1,5 +1,6 @@
-//! A guess at the strongly connected components, by two searches over neighbouring places (Kosaraju and
-//! Sharir). No clause says that it is right: `components` tests it.
+//! A guess at the strongly connected components, by one search in depth over neighbouring places (Tarjan 1972;
+//! low links and components share one list of numbers, as in Pearce 2016). No clause says that it is right:
+//! `components` tests it.
 
 use super::edges::Edges;
 use crate::guesses::{NONE, at, put};
@@ -12,13 +13,14 @@ use std::alloc::Global;
 pub struct Guess {
     /// For each element the number of its component. Along a list these don't fall.
     pub ranks: Vec<u32>,
-    /// For each component its root, one of its elements.
+    /// For each component its root, one of its elements. What stands at a number that no component has means
+    /// nothing.
     pub roots: Vec<u32>,
     /// For each element whether its component has others.
     pub shared: Vec<bool>,
     /// For each of these elements one that stands right after it in some list, by which it leads to the root.
     pub after: Vec<u32>,
-    /// For each element a number that falls on that way to the root.
+    /// For each of these elements how many steps that way to the root has.
     pub backs: Vec<u32>,
     /// For each of these elements but the root one that stands right before it, on a way from the root.
     pub before: Vec<u32>,
@@ -26,183 +28,156 @@ pub struct Guess {
     pub forths: Vec<u32>,
 }
 
+impl Guess {
+    /// No guess yet.
+    fn new(alloc: Global, elements: usize) -> Result<Guess, Memory> {
+        Ok(Guess {
+            ranks: Vec::from_elem(alloc, NONE, elements)?,
+            roots: Vec::from_elem(alloc, NONE, elements)?,
+            shared: Vec::from_elem(alloc, false, elements)?,
+            after: Vec::from_elem(alloc, NONE, elements)?,
+            backs: Vec::from_elem(alloc, 0, elements)?,
+            before: Vec::from_elem(alloc, NONE, elements)?,
+            forths: Vec::from_elem(alloc, NONE, elements)?,
+        })
+    }
+}
+
 /// Guesses the components. It takes time and memory linear in the elements and the places.
 pub fn guess_components(alloc: Global, graph: &OrderGraph) -> Result<Guess, Memory> {
     let mut edges = Edges::of(alloc, graph)?;
-    let depth = search_forward(alloc, graph, &mut edges)?;
-    let mut guess = search_backward(alloc, graph, depth, edges.turned(alloc)?)?;
+    let mut search = DepthSearch {
+        guess: Guess::new(alloc, graph.elements() as usize)?,
+        open: 0,
+        least: graph.elements(),
+    };
     for x in 0..graph.elements() {
-        guess.lead_on(x);
+        if at(&search.guess.ranks, x) == NONE {
+            search.search_from(&mut edges, x);
+        }
     }
+    let DepthSearch {
+        guess,
+        open: _,
+        least: _,
+    } = search;
     Ok(guess)
 }
 
-/// The search in depth, in the direction of the lists.
+/// The search in depth, in the direction of the lists. An element is open once the search has come to it, until
+/// its whole component is found.
+///
+/// It keeps what it knows in the guess. The open elements stand at the front of `roots`, in the order in which
+/// the search came to them. Components are numbered from the greatest number down, so their roots stand behind
+/// these. Of an open element, `forths` has its place there, and `ranks` the first place that it is known to lead
+/// to (its low link), which is less than the number of any component.
 #[derive(Drop)]
-struct Depth {
-    /// For each element the place that it has in the order in which the search came to them.
-    found: Vec<u32>,
-    /// For each element the one from which the search came to it.
-    parents: Vec<u32>,
-    /// The elements in the order in which the search left them.
-    left: Vec<u32>,
-    /// How many elements it came to.
-    count: u32,
+struct DepthSearch {
+    guess: Guess,
+    /// How many elements are open.
+    open: u32,
+    /// The least number of a component that is found.
+    least: u32,
 }
 
-/// Searches from each element that no search has come to.
-fn search_forward(alloc: Global, graph: &OrderGraph, edges: &mut Edges) -> Result<Depth, Memory> {
-    let elements = graph.elements() as usize;
-    let mut depth = Depth {
-        found: Vec::from_elem(alloc, NONE, elements)?,
-        parents: Vec::from_elem(alloc, NONE, elements)?,
-        left: Vec::with_capacity(alloc, elements)?,
-        count: 0,
-    };
-    for x in 0..graph.elements() {
-        if at(&depth.found, x) == NONE {
-            depth.search_from(edges, x)?;
-        }
-    }
-    Ok(depth)
-}
-
-impl Depth {
-    /// Comes to an element.
-    fn find(&mut self, x: u32, parent: u32) {
-        put(&mut self.found, x, self.count);
-        put(&mut self.parents, x, parent);
-        self.count = self.count.saturating_add(1);
-    }
-
+impl DepthSearch {
     /// Searches from an element. Each turn takes an edge or leaves an element.
-    fn search_from(&mut self, edges: &mut Edges, source: u32) -> Result<(), Memory> {
+    fn search_from(&mut self, edges: &mut Edges, source: u32) {
         self.find(source, NONE);
         let mut x = source;
         for _ in 0..edges.turns() {
-            x = self.turn(edges, x)?;
+            x = self.turn(edges, x);
             if x == NONE {
-                return Ok(());
+                return;
             }
         }
-        Ok(())
     }
 
     /// Goes on from an element; to `NONE` from the source, where no edge is left.
-    fn turn(&mut self, edges: &mut Edges, x: u32) -> Result<u32, Memory> {
+    fn turn(&mut self, edges: &mut Edges, x: u32) -> u32 {
         match edges.take(x) {
-            None => {
-                self.left.push(x)?;
-                Ok(at(&self.parents, x))
-            }
-            Some(y) if at(&self.found, y) == NONE => {
+            None => self.leave(x),
+            Some(y) if at(&self.guess.ranks, y) == NONE => {
                 self.find(y, x);
-                Ok(y)
+                y
             }
-            Some(_) => Ok(x),
-        }
-    }
-}
-
-/// Searches against the direction of the lists, by these edges, from the element that was left last on: what
-/// is found from one element is its component.
-fn search_backward(
-    alloc: Global,
-    graph: &OrderGraph,
-    depth: Depth,
-    mut edges: Edges,
-) -> Result<Guess, Memory> {
-    let Depth {
-        found,
-        parents,
-        left,
-        count: _,
-    } = depth;
-    let elements = graph.elements() as usize;
-    let mut guess = Guess {
-        ranks: Vec::from_elem(alloc, NONE, elements)?,
-        roots: Vec::with_capacity(alloc, elements)?,
-        shared: Vec::from_elem(alloc, false, elements)?,
-        after: Vec::from_elem(alloc, NONE, elements)?,
-        backs: Vec::from_elem(alloc, NONE, elements)?,
-        before: parents,
-        forths: found,
-    };
-    let mut queue = Vec::with_capacity(alloc, elements)?;
-    for x in left.iter().rev() {
-        if at(&guess.ranks, *x) == NONE {
-            guess.find_component(&mut edges, *x, &mut queue)?;
-        }
-    }
-    Ok(guess)
-}
-
-impl Guess {
-    /// Finds the component of an element, its root.
-    fn find_component(
-        &mut self,
-        edges: &mut Edges,
-        root: u32,
-        queue: &mut Vec<u32>,
-    ) -> Result<(), Memory> {
-        let rank = self.roots.len().min(NONE as usize) as u32;
-        let start = queue.len();
-        self.roots.push(root)?;
-        self.find(root, NONE, rank, queue)?;
-        for head in start..self.ranks.len() {
-            let Some(x) = queue.get(head).copied() else {
-                break;
-            };
-            self.find_before(edges, x, rank, queue)?;
-        }
-        if queue.len() > start.saturating_add(1) {
-            for x in queue.iter().skip(start) {
-                self.share(*x);
+            Some(y) => {
+                self.look_at(x, y);
+                x
             }
         }
-        Ok(())
     }
 
-    /// Finds what stands right before an element.
-    fn find_before(
-        &mut self,
-        edges: &mut Edges,
-        x: u32,
-        rank: u32,
-        queue: &mut Vec<u32>,
-    ) -> Result<(), Memory> {
-        for _ in 0..edges.turns() {
-            match edges.take(x) {
-                None => return Ok(()),
-                Some(y) if at(&self.ranks, y) == NONE => self.find(y, x, rank, queue)?,
-                Some(_) => {}
-            }
-        }
-        Ok(())
+    /// Comes to an element, from one that stands right before it.
+    fn find(&mut self, x: u32, before: u32) {
+        put(&mut self.guess.before, x, before);
+        put(&mut self.guess.forths, x, self.open);
+        put(&mut self.guess.ranks, x, self.open);
+        put(&mut self.guess.roots, self.open, x);
+        self.open = self.open.saturating_add(1);
     }
 
-    /// Comes to an element, from one that stands right after it.
-    fn find(&mut self, x: u32, after: u32, rank: u32, queue: &mut Vec<u32>) -> Result<(), Memory> {
-        put(&mut self.ranks, x, rank);
-        put(&mut self.after, x, after);
-        put(&mut self.backs, x, queue.len().min(NONE as usize) as u32);
-        queue.push(x)?;
-        Ok(())
-    }
-
-    /// Takes note that the component of an element has others.
-    fn share(&mut self, x: u32) {
-        if (x as usize) < self.shared.len() {
-            self.shared[x as usize] = true;
+    /// Looks from an element at one that stands right after it, and that the search came to before.
+    fn look_at(&mut self, x: u32, y: u32) {
+        let low = at(&self.guess.ranks, x);
+        let place = at(&self.guess.forths, y);
+        // The first test leaves out those that are open no more.
+        if at(&self.guess.ranks, y) < low && place < low {
+            self.lead(x, y, place, 1);
         }
     }
 
-    /// Lets a root lead on to an element of its component that the search in depth found from it.
-    fn lead_on(&mut self, x: u32) {
-        let root = at(&self.before, x);
-        let rank = at(&self.ranks, x);
-        if at(&self.ranks, root) == rank && at(&self.roots, rank) == root {
-            put(&mut self.after, root, x);
+    /// Lets an element lead on to another, and so in this many steps to the open one at a place.
+    fn lead(&mut self, x: u32, after: u32, low: u32, steps: u32) {
+        put(&mut self.guess.after, x, after);
+        put(&mut self.guess.ranks, x, low);
+        put(&mut self.guess.backs, x, steps);
+    }
+
+    /// Leaves an element, for the one from which the search came to it.
+    fn leave(&mut self, x: u32) -> u32 {
+        let before = at(&self.guess.before, x);
+        let low = at(&self.guess.ranks, x);
+        if low == at(&self.guess.forths, x) {
+            self.close(x, low);
+        } else if low < at(&self.guess.ranks, before) {
+            let steps = at(&self.guess.backs, x);
+            self.lead(before, x, low, steps.saturating_add(1));
+        }
+        before
+    }
+
+    /// Closes the component of its root: the open elements from the root's place on.
+    fn close(&mut self, root: u32, place: u32) {
+        self.least = self.least.saturating_sub(1);
+        if place.saturating_add(1) < self.open {
+            self.share(root, place);
+        }
+        self.open = place;
+        put(&mut self.guess.ranks, root, self.least);
+        put(&mut self.guess.roots, self.least, root);
+    }
+
+    /// Takes note that these elements share a component. The root leads to the one that was found next.
+    fn share(&mut self, root: u32, place: u32) {
+        let next = at(&self.guess.roots, place.saturating_add(1));
+        put(&mut self.guess.after, root, next);
+        for open in place..self.open {
+            let x = at(&self.guess.roots, open);
+            self.share_one(x);
+        }
+    }
+
+    /// Takes note that an element shares its component. From the open element that it leads to, which stands
+    /// before it, the steps to the root are counted already.
+    fn share_one(&mut self, x: u32) {
+        let low = at(&self.guess.ranks, x);
+        let on = at(&self.guess.backs, at(&self.guess.roots, low));
+        let steps = at(&self.guess.backs, x).saturating_add(on);
+        put(&mut self.guess.backs, x, steps);
+        put(&mut self.guess.ranks, x, self.least);
+        if (x as usize) < self.guess.shared.len() {
+            self.guess.shared[x as usize] = true;
         }
     }
 }

@@ -1,6 +1,5 @@
 -- One place more.
-use Rattle.std.proofs.Common.{ℕ, ◌<◌, ◌≤◌, inl, inr, List, length, ◌∙◌, subst, arith}
-use Rattle.witness_order.specs.Edges.{lists_in, AreLastListed}
+use Rattle.std.proofs.Common.{ℕ, ◌<◌, ◌≤◌, inl, inr, List, length, ◌∙◌, arith}
 use Rattle.witness_order.proofs.Listing.{both-more, next-more}
 use Rattle.witness_order.proofs.successors.note_list.Goals as goal
 
@@ -14,11 +13,9 @@ loop-j-preserved c =
     let high : j < length list = omega arith in
     record {
       count = made.count ∙ inv.count;
-      size = made.size ∙ inv.size;
-      last = subst (λ n. AreLastListed n (lists_in c.note.new.successors.items) c.note.new.last.items)
-          inv.count made.last;
+      kept = made.kept;
       listed = λ x y. both-more (made.listed x y) (inv.listed x y) (next-more list j x y low high);
-      short = λ x. omega (arith, made.short x, inv.short x);
+      short = omega (arith, made.short, inv.short);
       within = omega arith;
     }
 
@@ -28,9 +25,3 @@ returns-clause-listed c = λ x y.
       λ h. elim (both.0 h) [ inl old ↦ inl old | inr b ↦ inr b.0 ],
       λ s. both.1 (elim s [ inl old ↦ inl old | inr a ↦ inr (a, let low = a.within in omega arith) ]),
     )
-
-pub returns-clause-short : goal.returns-clause-short
-returns-clause-short c = λ x.
-    let more = c.loop-j.invariant.short x in
-    let most = c.loop-j.invariant.within in
-    omega arith
