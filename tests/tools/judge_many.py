@@ -2176,8 +2176,8 @@ def weak(tally: Tally, program: str, folder: str) -> None:
     usual = judge(program, [folder])
     told = usual.out.decode()
     tally.check("weak: not asked for", usual.status == 1 and "weak" not in told and not usual.err and told.endswith(
-        "5 traces: 1 accepted, 3 refused, 1 contents\n") and [cells(line)[1:5] for line in told.splitlines()[1:5]] == [
-            ("refused", "3", "11", "11"), ("contents", "-", "11", "14"), ("refused", "3", "11", "17"), ("refused", "2", "11", "17")], usual)
+        "5 traces: 1 accepted, 3 refused, 1 contents\n") and [cells(line)[1:6] for line in told.splitlines()[1:5]] == [
+            ("refused", "3", "11", "-", "11"), ("contents", "-", "11", "refused 3", "14"), ("refused", "3", "11", "-", "17"), ("refused", "2", "11", "refused 3", "17")], usual)
     passing = [f"{folder}/{name}.trace" for name in ("alone", "right", "unequal")]
     got = judge(program, ["--weak", *passing])
     tally.check("weak: status 0 where none fails", got.status == 0 and b"\n3 traces: 1 accepted, 2 weak alone\n" in got.out, got)
