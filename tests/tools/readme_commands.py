@@ -49,7 +49,7 @@ SOURCE = "Attiya, Burckhardt, Gotsman, Morrison, Yang and Zawirski (\"Specificat
 SENTENCES = {
     "docs/recording.md": ["in `dispatchTransaction`, for each step", "after the dispatch of `receiveTransaction`", "A step that rebasing drops is never sent.",
                           "Threads may share a recording: each call is whole before the next begins. In Rust they share it in a `Mutex`.",
-                          "`delivered` says that by now everything has arrived, and takes each replica's list; so a lost change, or one held back for ever, "
+                          "`delivered` says that by now everything has arrived, and writes a read of each list; so a lost change, or one held back for ever, "
                           "is a fault too"],
     "recorders/domepeeler.h": ["Threads may share a recording: each call is whole before the next one begins", "it leads to memory that was freed"],
     "recorders/domepeeler.el": ["Threads may share a recording: each call is whole before the next one begins."],
