@@ -534,7 +534,7 @@ and takes time linear in the text."
     (domepeeler--refuse domepeeler--one-log))
   (if (= (domepeeler-lines recording) domepeeler--head)
       (append (domepeeler--refusals recording)
-              (list "nothing was recorded: the trace has no entry, so the verdict says nothing of an editor"))
+              (list "nothing was recorded: the trace has no entry, so the verdict says nothing about your editor"))
     (let ((warned (domepeeler--warned recording)))
       (append (domepeeler--refusals recording)
               (domepeeler--different recording warned)

@@ -1576,7 +1576,7 @@ static inline char *domepeeler_warnings_now(struct domepeeler *d) {
         return NULL;
     }
     domepeeler_say_refused(d, &said, "", "\n");
-    if (!entries) domepeeler_say(&said, "nothing was recorded: the trace has no entry, so the verdict says nothing of an editor\n");
+    if (!entries) domepeeler_say(&said, "nothing was recorded: the trace has no entry, so the verdict says nothing about your editor\n");
     if (!entries) return domepeeler_said(d, &said);
     memset(&w, 0, sizeof w);
     w.d = d;

@@ -915,7 +915,7 @@ function upTo(numbers, most) {
 
 // What an accepted trace with these lines may hide; tools/explaining/warnings.py says the same of a file.
 function hidden(lines) {
-  if (lines.length === HEAD_LINES) return ["nothing was recorded: the trace has no entry, so the verdict says nothing of an editor"]
+  if (lines.length === HEAD_LINES) return ["nothing was recorded: the trace has no entry, so the verdict says nothing about your editor"]
   const count = Number(lines[1].split(" ")[1])
   // Of each replica: how many operations of each one it has, now and at each operation of its own; its changes, as the numbers of these
   // operations and their lines; the last list that it showed, which a view is not; what it had then, the receipts since, and whether a view

@@ -934,7 +934,7 @@ class _End:
 def _hidden(lines: List[str]) -> List[str]:
     """What an accepted trace with these lines may hide; tools/explaining/warnings.py says the same of a file."""
     if len(lines) == HEAD_LINES:
-        return ["nothing was recorded: the trace has no entry, so the verdict says nothing of an editor"]
+        return ["nothing was recorded: the trace has no entry, so the verdict says nothing about your editor"]
     ends = [_End(int(lines[1].split(" ")[1])) for _ in range(int(lines[1].split(" ")[1]))]
     inserted: Set[str] = set()
     deletes: List[Tuple[str, str]] = []

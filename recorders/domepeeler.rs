@@ -1367,7 +1367,7 @@ impl<'a> Warned<'a> {
 
     fn all(self) -> Vec<String> {
         if self.recording.callers.is_empty() {
-            return vec!["nothing was recorded: the trace has no entry, so the verdict says nothing of an editor".to_string()];
+            return vec!["nothing was recorded: the trace has no entry, so the verdict says nothing about your editor".to_string()];
         }
         let mut all = self.different();
         all.extend(self.unheard());

@@ -267,7 +267,7 @@ def long_documents(tally: Tally, program: str) -> None:
             told = done.returncode, done.stdout.split(b"\n")[1:2]
         except subprocess.TimeoutExpired:
             told = f"no answer within {MOST_SECONDS} seconds"
-        tally.same(f"{' '.join([script, *words])} is refused at once", told, (1, [f"refused {k}".encode()]))
+        tally.check(f"{' '.join([script, *words])} is refused at once", told == (1, [f"refused {k}".encode()]), told)
 
 
 def main() -> None:

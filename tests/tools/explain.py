@@ -160,7 +160,7 @@ WORDS = [
      "Look at positions beside deleted elements: any two of 2.1, 0.3 and 1.1 fit together, but not all three; perhaps an insert lost its place "
      "because its neighbour was deleted meanwhile. Look first at where replica 0 placed b in line 10: it belongs beside x, which had been deleted there.|"
      "If the list is sorted by position identifiers, look at those of x, b and a: are two of them equal, does one differ between replicas, are numbers compared as text, or is one of them not between the identifiers of its neighbours?|"
-     "An editor whose server orders all changes, as Jupiter's does, promises only the weak list specification, which holds here. If yours is such an editor, nothing is wrong here: use --weak, which asks for the weak specification alone."
+     "An editor whose server orders all changes, as Jupiter's does, promises only the weak list specification, which holds here. If yours is such an editor, nothing is wrong here: ask for the weak specification alone (in the tools by --weak)."
      + stop(10, "replica 0 applies 2.1", 9, 5, 4, together=9)),
     ("an insert that arrives beside a deleted element", 2, BESIDE_DELETED,
      "[d] before [c]: line 9 of the trace, 0.3: replica 0 inserted d at position 1, answered b [d] [c]|"
@@ -193,7 +193,7 @@ WORDS = [
      "c was put behind a and before b. When it arrived at replica 1 in line 13, both were already deleted there: a by 1.1 (line 8), b by 0.3 (line "
      "9)|c arrived at replica 1 in line 13, d at replica 2 in line 15"),
     ("a session that goes on", 2, f"{BESIDE_DELETED}|0 recv 1 2|0 read : d c|1 read : c d",
-     "When it showed|line 11 of the trace, 1.3: replica 1 read the list. Up to line 10 the session is accepted; line 11 makes it `refused 2`|"
+     "When it showed|line 11 of the trace, 1.3: replica 1 read the list. Up to line 10 the session is accepted; with line 11 the verdict is `refused 2`|"
      "before it: replica 1's 1.2 (line 8) answered c, which fits; since then it received 0.3 (line 10)|"
      "in the end replicas 0 and 1 have every change, as the receipts say, and show the same elements in different orders||"
      "What these responses show: a circle, which no order allows|"
@@ -202,7 +202,7 @@ WORDS = [
      "c arrived at replica 0 in line 6, d at replica 1 in line 10||"
      "Where to look" + stop(10, "replica 1 applies 0.3", 6)),
     ("a session that goes on, with one list in the end", 2, f"{BESIDE_DELETED}|0 recv 1 2|0 read : c d",
-     "When it showed|line 11 of the trace, 1.3: replica 1 read the list. Up to line 10 the session is accepted; line 11 makes it `refused 2`|"
+     "When it showed|line 11 of the trace, 1.3: replica 1 read the list. Up to line 10 the session is accepted; with line 11 the verdict is `refused 2`|"
      "before it: replica 1's 1.2 (line 8) answered c, which fits; since then it received 0.3 (line 10)|"
      "in the end replicas 0 and 1 have every change, as the receipts say, and show the same list||Where to look|Replica 0 inserted "
      "[d] (0.3, line 9) before [c]. No other replica shows them in this order. After its next receipt (line 12), from 0.4 (line 13) on, replica 0 itself shows [d] behind [c], like the others. So the message for "
@@ -217,7 +217,7 @@ WORDS = [
     ("a beginning that shows something else", 3, f"{THREE_WAY}|1 recv 0 2|1 recv 2 1|1 read : a b",
      "refused 3: three responses can't be right together. Any two of them can. This fault comes first, "
      "in lines 1 to 11: start with it. The whole trace has another verdict, `refused 2`, which is explained below.||"
-     "When it showed|line 11 of the trace, 0.3: replica 0 read the list. Up to line 10 the session is accepted; line 11 makes it "
+     "When it showed|line 11 of the trace, 0.3: replica 0 read the list. Up to line 10 the session is accepted; with line 11 the verdict is "
      "`refused 3`|"
      "before it: replica 0's 0.2 (line 8) answered (nothing), which fits; since then it received 1.1 (line 9), 2.1 (line 10)|"
      "in the end replicas 0 and 1 have every change, as the receipts say, and show the same elements in different orders||"
@@ -252,7 +252,7 @@ WORDS = [
      "[b] before [c]: line 9, 1.2: replica 1 read the list, answered [b] [c]|"
      "[c] before [a]: line 11, 2.2: replica 2 read the list, answered [c] [a]|"
      "b arrived at replica 0 in line 6, c at replica 1 in line 8, a at replica 2 in line 10|"
-     "Look at how a replica orders elements when it has only some of them: any two of 0.2, 1.2 and 2.2 fit together, but not all three. An element that one of these responses lacks had simply not arrived yet; no delete is involved. Often the rule that orders concurrent inserts is not the same everywhere."
+     "Look at how a replica orders elements when it has only some of them: any two of 0.2, 1.2 and 2.2 fit together, but not all three. The elements that some of these responses lack had not arrived there yet; they were not deleted. Often the rule that orders concurrent inserts is not the same everywhere."
      + stop(10, "replica 2 applies 0.1", 8, 6)),
     ("an element that came along with what had seen it", 3, "0 ins a 0 : a|1 recv 0 1|1 read : a|1 ins b 1 : a b|2 recv 1 1|2 recv 1 2|"
      "2 recv 0 1|2 read : b a",
@@ -270,7 +270,7 @@ WORDS = [
      "before it: replica 2 did nothing, and received 1.1 (line 6)|Missing|"
      "[a] inserted by 0.1 (line 3), which arrived at replica 1 in line 4 (1 recv 0 1). "
      "Replica 2 should have had it since line 6 (2 recv 1 1): the author of 1.1 had it|[a] 0.1 has no receipt of its own at replica 2. If "
-     "each operation travels by itself, 1.1 arrived without 0.1 (line 6): that is not causal order|[a] is never deleted||Where to look|"
+     "each operation travels by itself, 1.1, whose author had 0.1, arrived without it (line 6): that is not causal order|[a] is never deleted||Where to look|"
      "Look first at whether 0.1 was lost on its way to replica 2: no receipt there names it. If it was not lost but overtaken, look at the order in which "
      "operations arrive. Your editor may be right, but it needs operations in causal order: apply an operation only after everything that its author had seen, or send all of that along with it. If the editor itself holds "
      f"operations back, write the receipt of each only when it is applied. {GUIDE} shows what to record in each case."),
@@ -464,7 +464,7 @@ WORDS = [
     ("a wrong response before the one that the program names", 2, "1 ins a 0 : a|1 read :|0 recv 1 1|0 read : a|0 read :|1 read : a",
      "contents 1.2: this response lacks one element that replica 1 should have had by then. This fault comes first, in lines 1 to 4: start with it. The whole trace has "
      "another verdict, `contents 0.2`, which is explained below.||When it went wrong|"
-     "line 4 of the trace, 1.2: replica 1 read the list. Up to line 3 the session is accepted; line 4 makes it `contents 1.2`|"
+     "line 4 of the trace, 1.2: replica 1 read the list. Up to line 3 the session is accepted; with line 4 the verdict is `contents 1.2`|"
      "the first 4 lines are enough to show it (`head -4`)||The response|line 4 of the trace, 1.2: replica 1 read the list|answered: (nothing)|"
      "[a] inserted by 1.1 (line 3), an earlier operation of replica 1|[a] is never deleted||Where to look|"
      "Replica 1's answer in 1.1 (line 3) is right, and it has received nothing since. Look at what replica 1 does between that answer and this one; if there is a server, also at what its acknowledgement of the replica's own change does." + stop(4, "replica 1 reads the list")
@@ -499,15 +499,15 @@ ALONE = "weak holds, strong doesn't: this passes, since only the weak list speci
 FAILS_WEAK = [
     # Where strong failed before, the session went wrong where weak fails.
     ("opposite orders after the cycle", f"{THREE_WAY}|1 recv 0 2|1 recv 2 1|1 read : a b|2 recv 0 2|2 recv 1 1|2 read : a b", "refused 2: ", [
-        "When it showed", "line 14 of the trace, 1.2: replica 1 read the list. Up to line 13 the weak specification holds; line 14 makes it `refused 2`",
+        "When it showed", "line 14 of the trace, 1.2: replica 1 read the list. Up to line 13 the weak specification holds; with line 14 the verdict is `refused 2`",
         "before it: replica 1's 1.1 (line 6) answered a x, which agrees with all responses up to then; since then it received 0.2 (line 12), 2.1 (line 13)",
         "[a] before [b]: line 14, 1.2: replica 1 read the list, answered [a] [b]",
         "[b] before [a]: line 11, 0.3: replica 0 read the list, answered [b] [a]", "strong and weak fail"]),
     ("a lost element after the cycle", f"{THREE_WAY}|1 recv 0 2|1 recv 2 1|1 read : b|0 read : b", "contents 1.2: ", [
-        "When it went wrong", "line 14 of the trace, 1.2: replica 1 read the list. Up to line 13 the weak specification holds; line 14 makes it `contents 1.2`",
+        "When it went wrong", "line 14 of the trace, 1.2: replica 1 read the list. Up to line 13 the weak specification holds; with line 14 the verdict is `contents 1.2`",
         "the first 14 lines are enough to show it (`head -14`)"]),
     ("a wrong position after the cycle", f"{THREE_WAY}|2 ins c 0 : x c b|0 read : b", "position 2.2: ", [
-        "When it went wrong", "line 12 of the trace, 2.2: replica 2 inserted c at position 0. Up to line 11 the weak specification holds; line 12 makes it "
+        "When it went wrong", "line 12 of the trace, 2.2: replica 2 inserted c at position 0. Up to line 11 the weak specification holds; with line 12 the verdict is "
         "`position 2.2`", "asked for: position 0; the answer has [x] there"]),
     ("a name twice", "0 ins a 0 : a|1 ins a 0 : a", "doubled: ", ["neither the strong nor the weak one was judged, since two elements have one name"])]
 
@@ -1029,7 +1029,7 @@ def sooner(tally: Tally, program: str, text: str, report: dict, said: str) -> tu
     told = paragraph(said, "When it showed" if first["verdict"] == "refused" else "When it went wrong").splitlines()
     wanted = count < max(named)
     is_right = bool(told) and told[0].startswith(f"  line {count} of the trace, ") and (
-        first["verdict"] == "refused" or told[1:] == [f"  the first {count} lines are enough to show it (`head -{count}`)"]) and told[0].endswith(f". Up to line {count - 1} the session is accepted; line {count} makes it `{of_first}`")
+        first["verdict"] == "refused" or told[1:] == [f"  the first {count} lines are enough to show it (`head -{count}`)"]) and told[0].endswith(f". Up to line {count - 1} the session is accepted; with line {count} the verdict is `{of_first}`")
     tally.check("a fault: when it went wrong", is_right if wanted else not told, f"{text}{report}\n{said}")
     headline, is_other = said.splitlines()[0], of_whole != of_first
     tally.check("a fault: its headline", headline.startswith(of_first.partition(" ")[0]) and headline.endswith(
@@ -1772,7 +1772,7 @@ FIRST_TOLD = {
         "It looks as if 0.3 (line 5), applied at replica 1, deleted a instead of b"),
     "an insert into a deleted range": ("positions", 3, "2 ins a 0 : a|2 ins b 1 : a b|1 recv 2 2|1 read : a b|2 ins c 2 : a b c|2 ins e 1 : a e b c|2 del b : a e c|2 del c : a e|1 ins d 2 : a b d|"
         "2 recv 1 2|2 read : a d e|1 recv 2 4|1 read : a e b d c",
-        "When [d] arrived at replica 2 in line 12, both its neighbours, b and c, had been deleted there, one directly after the other, by 2.5 (line 9) and 2.6 (line 10): it may be an insert into the middle "
+        "When [d] arrived at replica 2 in line 12, b and c, between which it belongs, had been deleted there, one directly after the other, by 2.5 (line 9) and 2.6 (line 10): it may be an insert into the middle "
         "of a deleted range. Look at how such an insert is adjusted: it must go to where the range began, no further to the left. Look also at how the delete of a range is adjusted for it."),
     "a third replica that has applied it": ("neighbours", 3, "0 ins a 0 : a|1 recv 0 1|1 read : a|2 recv 0 1|2 read :",
         "It looks as if 0.1 (line 3) was not applied at replica 2: lost, or held back, or `received` is called before the change is applied. Replica 1 has applied 0.1, as 1.1 (line 5) shows: so look at "
@@ -1781,10 +1781,10 @@ FIRST_TOLD = {
         "It looks as if 0.1 (line 3) was not applied at replica 1: lost, or held back, or `received` is called before the change is applied. Replica 2 has not applied 0.1 either, as 2.1 (line 7) shows: so "
         "look first at what is sent.\n"),
     "a change that is shown later, with nothing between": ("neighbours", 2, "0 ins a 0 : a|1 recv 0 1|1 read :|1 ins b 0 : b a",
-        "It looks as if 0.1 (line 3) was not applied at replica 1: lost, or held back, or `received` is called before the change is applied. But 1.2 (line 6) shows it, though nothing was received in "
+        "It looks as if 0.1 (line 3) was not applied at replica 1: lost, or held back, or `received` is called before the change is applied. But 1.2 (line 6) shows it applied, though nothing was received in "
         "between: so it had arrived, and the list shown before was out of date. Is each list that is kept for showing, such as a cache, made anew after every change, remote ones too?\n"),
     "a change that is shown later, behind another": ("neighbours", 2, "0 ins a 0 : a|1 recv 0 1|1 read :|0 ins b 1 : a b|1 recv 0 2|1 read : a b",
-        "It looks as if 0.1 (line 3) was not applied at replica 1: lost, or held back, or `received` is called before the change is applied. 1.2 (line 8) shows it, after the arrival in line 7: "
+        "It looks as if 0.1 (line 3) was not applied at replica 1: lost, or held back, or `received` is called before the change is applied. 1.2 (line 8) shows it applied, after the arrival in line 7: "
         "perhaps it was held back until then, or its receipt was written too early.\n"),
     "a delete that may have come before its element": ("tree", 2, "0 ins a 0 : a|0 del a :|1 recv 0 1|1 recv 0 2|1 read : a",
         "It looks as if 0.2 (line 4) was not applied at replica 1: lost, or held back, or `received` is called before the change is applied. If it arrived before the insert of a, look at the place where deletes wait until their element arrives: a second one must not overwrite the first, and each must be tried again then.\n"),
@@ -1928,7 +1928,7 @@ def first_told(tally: Tally, program: str, folder: str) -> None:
             tally.check(f"first told: {kind}: what came among others, {name}", (among in told) == (kind == "neighbours" and name != "read between"), told)
     path.write_text(text_of(2, "0 ins a 0 : a|0 del a :|1 recv 0 1|1 recv 0 2|1 read : a|1 del a :|1 read :"))
     told = explain(program, [str(path)]).out.decode()
-    tally.check("first told: nothing of what another delete did", "0.2 (line 4) was not applied at replica 1" in told and "shows it, " not in told, told)
+    tally.check("first told: nothing of what another delete did", "0.2 (line 4) was not applied at replica 1" in told and "shows it applied, " not in told, told)
     both = "0 ins a 0 : a|0 ins b 1 : a b|1 recv 0 2|1 read : a b|0 del a : b|1 del a : b|1 recv 0 3|1 read : b|0 recv 1 2|0 ins c 1 : b c|1 recv 0 4|1 read : b"
     for kind in "positions", "neighbours":
         path.write_text(text_of(2, both))
@@ -2541,7 +2541,7 @@ def weak(tally: Tally, program: str, folder: str) -> None:
     """Where weak is enough: what is said first, the status, what is warned of, and where a session went wrong that fails. All else stays."""
     trace = text_of(3, ALL_ARRIVED).encode()
     without, got = (explain(program, [*goal, "-"], trace) for goal in ([], ["--weak"]))
-    asks, rest = re.subn(rb"  An editor whose server orders .* which asks for the weak specification alone\.\n", b"", without.out)[::-1]
+    asks, rest = re.subn(rb"  An editor whose server orders .* ask for the weak specification alone \(in the tools by --weak\)\.\n", b"", without.out)[::-1]
     tally.same("weak: it passes, and the explanation follows, but for how to ask for it", (asks, got), (1, Ended(0, ALONE.encode() + rest.replace(
         b"When it showed", b"When strong came to fail"), b"")))
     tally.check("weak: not asked for", without.status == 1 and without.out.startswith(b"refused 3: "), without)
@@ -2561,7 +2561,7 @@ def weak(tally: Tally, program: str, folder: str) -> None:
         if "opposite" in name:
             usual = explain(program, ["-"], text_of(3, entries).encode()).out
             tally.check(f"weak: {name}, where strong is asked for", usual.startswith(b"refused 3: ") and
-                        b"Up to line 10 the session is accepted; line 11 makes it `refused 3`" in usual, usual)
+                        b"Up to line 10 the session is accepted; with line 11 the verdict is `refused 3`" in usual, usual)
     for name in "lost_element", "crdt_el_wrong_delete", "libinfinity_replicas_disagree", "crdt_el_replicas_disagree":
         trace = (ROOT / f"examples/{name}.trace").read_bytes()
         got, without = (explain(program, [*goal, "-"], trace) for goal in (["--weak"], []))

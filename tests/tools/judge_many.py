@@ -961,7 +961,7 @@ def grouped(tally: Tally, program: str, folder: str) -> None:
     got = judge(program, ["--junit", f"{folder}/junit.xml", folder])
     rows = [cells(line) for line in got.out.decode().splitlines()]
     tally.check("grouped: the rows", [(Path(row[0]).stem, row[6]) for row in rows[:-1]] == [
-        ("file", "similar"), ("a", "1"), ("c", "0"), ("d", "0"), ("e", "0")] and rows[-1] == ("5 traces: 5 contents; 1 not listed, which look the same as a listed one (`similar`)",), rows)
+        ("file", "similar"), ("a", "1"), ("c", "0"), ("d", "0"), ("e", "0")] and rows[-1] == ("5 traces: 5 contents; 1 more looks the same as a listed one (`similar`)",), rows)
     tally.check("grouped: JUnit has each", len(list(xml.parse(f"{folder}/junit.xml").getroot().iter("failure"))) == 5)
     objects = [json.loads(line) for line in judge(program, ["--json", folder]).out.decode().splitlines()]
     tally.check("grouped: JSON has each", sorted((Path(row["file"]).stem, row["causes"][-1], row.get("place")) for row in objects) == [
@@ -2221,7 +2221,7 @@ def weak_junit(tally: Tally, program: str, folder: str) -> None:
                     and "in the end replicas 0, 1 and 2 show different lists" in first.text, first.text)
         first, = cases["opposite.trace"]
         tally.check(f"weak: JUnit's failed case {more}", first.tag == "failure" and first.get("message").startswith("refused 2: ") and
-                    "Up to line 13 the weak specification holds; line 14 makes it `refused 2`" in first.text, first.text)
+                    "Up to line 13 the weak specification holds; with line 14 the verdict is `refused 2`" in first.text, first.text)
     Path(folder, "alone.trace.lines").write_text("40\n")
     got = judge(program, ["--weak", "--junit", path, folder])
     suite = xml.parse(path).getroot().find("testsuite")
@@ -2244,7 +2244,7 @@ def weak_in_ci(tally: Tally, program: str, folder: str) -> None:
     tally.check("weak: annotations of GitHub", done.returncode == 1 and [line[:line.index("::", 2) + 13] for line in told] == [
         "::error file=recordings/lost.trace,title=recordings/lost.trace%3A contents::contents 1.",
         "::error file=recordings/opposite.trace,title=recordings/opposite.trace%3A refused::refused 2: "], told)
-    tally.check("weak: explained where weak fails", "Up to line 13 the weak specification holds; line 14 makes it `refused 2`" in
+    tally.check("weak: explained where weak fails", "Up to line 13 the weak specification holds; with line 14 the verdict is `refused 2`" in
                 Path(project, "judged/2.html").read_text() and done.stdout.endswith(
                     "2 failed: judged/junit.xml has them all, and judged/1.html is the page of the first\n"), done.stdout)
     done = in_ci(project, path, f"{script} --unequal", github)

@@ -1800,7 +1800,7 @@ def check_explains_file(tally: Tally, recorder: Recorder, folder: Path) -> None:
     said = [line[2:] for line in got[len(lost) + 1:-1]]
     tally.check(f"{recorder.language}: explains a file of a session that ends with delivered", told.returncode == 1 and
                 said == told.stdout.splitlines() and "says that 0.1 (line 3) arrived at replica 1; no response before shows it." in told.stdout and
-                "arrived at replica 1 in line 5 (1 recv 0 1), a line that `delivered` wrote" in told.stdout, (said, told))
+                "arrived at replica 1 in line 5 (1 recv 0 1, which `delivered` wrote)" in told.stdout, (said, told))
 
 
 def check_judge(tally: Tally, recorder: Recorder, folder: Path) -> None:
@@ -2321,7 +2321,7 @@ def check_guide(tally: Tally, program: str, folder: Path) -> None:
     for trace, wanted in judged:
         got = run(program, ["verdict", "-"], trace.encode() + b"\n")
         tally.check(f"guide: {trace}", got.out.decode().split("\n")[1:2] == [wanted.rstrip("\n")], got)
-    stops = re.findall(r"^  stop before line (\d+) of the trace, where .*: (if recording\.lines\(.*)$", explained.stdout, re.MULTILINE) or [("0", "")]
+    stops = re.findall(r"^  stop before line (\d+) of the trace, where .*\n  In Python, .*\n +(if recording\.lines\(.*)$", explained.stdout, re.MULTILINE) or [("0", "")]
     surroundings["PYTHONBREAKPOINT"] = "builtins.print"
     reads = [line for number in range(3, 9) for line in [stops[0][1], f"print({number}, recording.read(0, []))"]]
     stopped = ended("stopped.py", "\n".join(["from domepeeler import Recording", "recording = Recording(1)", *reads]))

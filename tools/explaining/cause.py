@@ -23,8 +23,9 @@ PUT_AT_ONCE = {True: " {others} was inserted at the same place as {element} conc
                False: " {others} were inserted at the same place as {element} concurrently: look also at whether {element} comes before or behind each of them."}
 OWN_ADJUSTED = ("how the replica's own changes that are still on their way are adjusted for an arriving change, and how that is adjusted for them (each for the unadjusted form of the other). If "
                 "the editor takes its own changes back and applies them again, look at how it does that.")
-EMPTIED = ("Before that, in line {line}, replica {replica} received {change}, which deletes {element}, though it had deleted {element} itself, by {other}. Where each of the two arrives, it has nothing left to delete, but "
-           "must still be counted as received (message numbers, acknowledgements), as a mere acknowledgement must not. Else later changes are adjusted once too often, or too seldom.")
+EMPTIED = ("Before that, in line {line}, replica {replica} received {change}, which deletes {element}, though it had deleted {element} itself, by {other}. Where the second of the two arrives, it "
+           "has nothing left to delete, but "
+           "must still be counted as received (message numbers, acknowledgements). Else later changes are adjusted once too often, or too seldom.")
 NONE_ON_WAY = "When {came} arrived, replica {replica} had no change of its own that the author of {came} did not know: so look at what the server (if it adjusts positions) made of {came}, and at what was sent before {came}."
 ONE_ON_WAY = "When {came} arrived, replica {replica} had one change of its own that the author of {came} did not know yet, {own}: this and {came} must each be adjusted for the other."
 SEVERAL_ON_WAY = ("When {came} arrived, replica {replica} had {count} changes of its own that the author of {came} did not know yet: {own}. {came} must be adjusted for the first of these, the "

@@ -25,19 +25,24 @@ NOT_APPLIED = ("It looks as if {changes} {were} not applied at replica {replica}
                "change is applied.{later}{elsewhere}{other}")
 KEPT_BACK = (" Between {change} and its first arrival elsewhere (line {first}) replica {author} received {came}: so stop before line {line} too, and look at ")
 LACKED_ELSEWHERE = "Replica {other} lacks {missing} too, in {operation}: so look first at what is sent{server}, and only then at replica {replica}. "
-LACKED_AT_SERVER = ("Replica {other} lacks {missing} too, in {operation}: so look first at what is sent, and then at replica {replica}, which changes nothing itself. If that is the server, look at how it "
+LACKED_AT_SERVER = ("Replica {other} lacks {missing} too, in {operation}: so look first at what is sent, and then at replica {replica}, which changes nothing itself. If that is the server, look at "
+                    "how it "
                     "adjusts a change for all that the author of the change had not seen. ")
-LATER = {True: " {operation} shows it, after the arrival in line {line}: perhaps it was held back until then, or its receipt was written too early.",
-         False: " But {operation} shows it, though nothing was received in between: so it had arrived, and the list shown before was out of date. Is each list that is kept for showing, such as a cache, made "
+LATER = {True: " {operation} shows it applied, after the arrival in line {line}: perhaps it was held back until then, or its receipt was written too early.",
+         False: " But {operation} shows it applied, though nothing was received in between: so it had arrived, and the list shown before was out of date. Is each list that is kept for showing, "
+                "such as a cache, made "
                 "anew after every change, remote ones too?"}
 ELSEWHERE = {True: " Replica {other} has applied {change}, as {operation} shows: so look at replica {replica}.",
              False: " Replica {other} has not applied {change} either, as {operation} shows: so look first at what is sent{server}."}
-SEARCH_MISSED = (" If the list is searched by identifiers, print those of the list that replica {replica} showed before: where they do not rise, the search misses; then look at how the one out of order "
+SEARCH_MISSED = (" If the list is searched by identifiers, print those of the list that replica {replica} showed before: where they do not rise, the search misses; then look at how the one out of "
+                 "order "
                  "was made.")
 OTHER_DELETE = (" Or it deleted another element, one that was already deleted there: look at how a replica that applies a delete finds the element (is the "
                 "whole id compared?).")
-CAME_BEFORE = (" If it arrived before the insert of {elements}, look at the place where deletes wait until their element arrives: a second one must not overwrite the first, and each must be tried again then.")
-WAITED_IN_PART = ("{first} {was} applied at replica {replica}, but not {then}, which {were} made right after that. If your editor sends the deletes of {elements} as one change, it looks as if that was "
+CAME_BEFORE = (" If it arrived before the insert of {elements}, look at the place where deletes wait until their element arrives: a second one must not overwrite the first, and each must be tried "
+               "again then.")
+WAITED_IN_PART = ("{first} {was} applied at replica {replica}, but not {then}, which {were} made right after that. If your editor sends the deletes of {elements} as one change, it looks as if that "
+                  "was "
                   "applied in part: look {past}at what a replica does where one of several elements is gone already, or has not come yet; and, if your editor holds a delete back until its elements "
                   "have arrived, at whether it tries again each time one of these arrives.")
 PAST_OTHERS = "first at whether the delete goes on past {others}, which stood between these elements in {before} and which replica {author} had not seen; then "
@@ -50,13 +55,15 @@ NO_RECEIPT = ("It looks as if {changes} {were} applied at replica {replica} with
               "too late, or names another operation.")
 WRONG_DELETE = ("It looks as if {delete}, applied at replica {replica}, deleted {missing} instead of {surplus}: look at how a replica that applies a "
                 "delete finds the element, and at whether the recorder writes the name of the element that was really deleted.")
-WRONG_LOCAL_DELETE = ("It looks as if {delete} deleted {missing} instead of {surplus}: look at how a local delete finds the element, and at whether the recorder writes the name of the element that was really deleted.")
+WRONG_LOCAL_DELETE = ("It looks as if {delete} deleted {missing} instead of {surplus}: look at how a local delete finds the element, and at whether the recorder writes the name of the element that "
+                      "was really deleted.")
 RIVALS = (" {missing} and {element} were inserted into one gap without knowing of each other. Which of them comes first must be decided by a rule that never ties (such as comparing the replicas' "
           "numbers; inserted letters may be equal) and is the same on client and server; else the delete hits the other one.")
 WRONG_POSITION = ("It looks as if {delete}, applied at replica {replica}, deleted {missing} instead of {surplus}: look at how the position of {name} is adjusted there; and at whether the recorder "
                   "writes the name of the element that was really deleted.")
 TIED = ("{one} and {two} were inserted at one place without knowing of each other, and are shown in two orders: {one} before {two} in {before}, {two} before {one} in {after}. "
-        "Look first at the order of concurrent inserts: it must be decided by a rule that never ties (such as comparing the replicas' numbers; inserted letters may be equal). Where the order differs, a later "
+        "Look first at the order of concurrent inserts: it must be decided by a rule that never ties (such as comparing the replicas' numbers; inserted letters may be equal). Where the order "
+        "differs, a later "
         "change by position hits another element.")
 MISNAMED = ("{deletes} delete{s} {named}; but {wrong}, while {missing}. Look at which ids a local delete puts into the change that it sends{several}.")
 NOT_SHOWN = "{element} does not stand in {before}{unknown}"
@@ -78,7 +85,8 @@ SECOND_DELETE = {
     True: "It looks as if {again}{applied} deleted {missing}. Its own element, {element}, was already deleted there, by {first}: such a delete must change nothing. Look at what the "
           "editor does with it; and at how the position of {name} is adjusted there.",
 }
-CAUSAL = ("Your editor may be right, but it needs operations in causal order: apply an operation only after everything that its author had seen, or send all of that along with it. If the editor itself holds operations "
+CAUSAL = ("Your editor may be right, but it needs operations in causal order: apply an operation only after everything that its author had seen, or send all of that along with it. If the editor "
+          "itself holds operations "
           f"back, write the receipt of each only when it is applied. {GUIDE} shows what to record in each case.")
 OVERTAKEN = "Look at the order in which operations arrive: {name} was overtaken, as told above. " + CAUSAL
 LOST_OR_OVERTAKEN = ("Look first at whether {name} was lost on its way to replica {replica}: no receipt there names it. If it was not lost but overtaken, "
@@ -92,7 +100,8 @@ OWN_ON_WAY = ("When {came} came{line}, replica {replica} had changes of its own 
               "rightly, and then removed by {delete}{twice}. Look at ")
 SHOWN_ELSEWHERE = " Replica {other} received {same} too, and shows {missing} in {operation}."
 TWICE = ", since {other} deletes {element} too"
-OWN_GONE = ("Replica {replica} showed its own changes in {before}, and shows them no more: {own}.{came}{unknown} Was the replica's list replaced by a state from elsewhere that lacks them, or were they taken "
+OWN_GONE = ("Replica {replica} showed its own changes in {before}, and shows them no more: {own}.{came}{unknown} Was the replica's list replaced by a state from elsewhere that lacks them, or were "
+            "they taken "
             "back and not applied again? Look also at the store of unconfirmed own changes, and at when they are removed from it.")
 CAME_SINCE = " Since then it received {came}."
 OWN_UNKNOWN = " No other replica shows that it has them."
@@ -185,7 +194,8 @@ def waited_in_part(evidence: Evidence) -> list:
     if not others or any(change not in evidence.made_before(left_out[-1]) for change in left_out[:-1]):
         return []
     told = WAITED_IN_PART.format(first=listed(list(map(at, others)), MOST_TOLD), was="were" if others[1:] else "was", replica=operation.replica,
-                                 then=listed(list(map(at, left_out)), MOST_TOLD), were="were" if left_out[1:] else "was", elements=listed([change.element for change in others + left_out], MOST_TOLD), past=past_others(evidence, others + left_out))
+                                 then=listed(list(map(at, left_out)), MOST_TOLD), were="were" if left_out[1:] else "was",
+                                 elements=listed([change.element for change in others + left_out], MOST_TOLD), past=past_others(evidence, others + left_out))
     return [Cause("applied in part", told)]
 
 
@@ -255,7 +265,9 @@ def other_than(evidence: Evidence, changes: list) -> str:
     what was deleted already. In an editor that sends positions none of these can be."""
     if evidence.kind == POSITIONS or any(change.kind != "del" for change in changes):
         return ""
-    missed = SEARCH_MISSED.format(replica=evidence.operations[0].replica) if evidence.kind == IDENTIFIERS else ""
+    before = last_whole(evidence, evidence.operations[0])
+    is_searched = evidence.kind == IDENTIFIERS and before is not None and all(change.element in before.response for change in changes)
+    missed = SEARCH_MISSED.format(replica=evidence.operations[0].replica) if is_searched else ""
     return missed + other_delete(evidence, changes)
 
 
@@ -386,8 +398,8 @@ def lacked_elsewhere(evidence: Evidence, delete: Operation, missing: list) -> st
 
 def with_others(evidence: Evidence, delete: Operation, missing: list, told: str) -> str:
     """The words on a delete that seems to have deleted something else, behind what a third replica shows; else, where changes carry positions, before what was on its way where it came."""
-    elsewhere = lacked_elsewhere(evidence, delete, missing)
     arrival = arrival_of(evidence, delete)
+    elsewhere = lacked_elsewhere(evidence, delete, missing) if arrival else ""
     return elsewhere + told if elsewhere or not arrival or evidence.kind != POSITIONS else f"{told} {on_way_then(evidence, arrival)}".rstrip()
 
 

@@ -55,12 +55,11 @@ SEVERAL_DELETED = ("Look at positions beside deleted elements: any {fewer} of {n
                    "because its neighbour was deleted meanwhile. {next}")
 NEXT = "Look first at where replica {replica} placed {element} in line {line}: it belongs beside {gone}, which had been deleted there."
 NO_NEXT = "The lines above say which elements each response no longer has."
-SEVERAL_APART = ("Look at how a replica orders elements when it has only some of them: any {fewer} of {named} fit together, but not all {k}. An element that one of these responses lacks had simply "
-                 "not arrived yet; no delete is involved. Often the rule that orders concurrent "
-                 "inserts is not the same everywhere.")
+SEVERAL_APART = ("Look at how a replica orders elements when it has only some of them: any {fewer} of {named} fit together, but not all {k}. The elements that some of "
+                 "these responses lack had not arrived there yet; they were not deleted. Often the rule that orders concurrent inserts is not the same everywhere.")
 WEAK_ALONE_HOLDS = ("An editor whose server orders all changes, as Jupiter's does, promises only the weak list specification, which holds here. If yours is such an editor, nothing is wrong here: "
-                    "use --weak, which asks for the weak specification alone.")
-IN_RANGE = ("When [{new}] arrived at replica {replica} in line {line}, both its neighbours, {left} and {right}, had been deleted there, one directly after the other, by {first} and {then}: it may be an insert into the "
+                    "ask for the weak specification alone (in the tools by --weak).")
+IN_RANGE = ("When [{new}] arrived at replica {replica} in line {line}, {left} and {right}, between which it belongs, had been deleted there, one directly after the other, by {first} and {then}: it may be an insert into the "
             "middle of a deleted range. Look at how such an insert is adjusted: it must go to where the range began, no further to the left. Look also at how the delete of a range is adjusted for it.")
 SETTLED = ("Look at where a replica places an incoming insert beside a deleted element: [{first}] was put before [{middle}] ({op_first}), and [{then}] behind it ({op_then}), so "
               "[{middle}] settles their order, also where it is deleted; yet {wrong} shows them the other way round. {then_what}")
@@ -287,7 +286,7 @@ def odd_one(evidence: Evidence) -> list:
     others, operation, receipt = evidence.odd_one
     two, one = [name for name in operation.response if name in evidence.elements]
     return [Cause("odd one", ODD_ONE.format(others=joined(list(map(str, others))), one=one, two=two, odd=operation.replica, operation=at(operation), line=receipt.line, came=receipt.seen.name,
-                                            own=on_way_then(evidence, receipt)))]
+                                            own=on_way_then(evidence, receipt)).rstrip())]
 
 
 def sorted_alike(evidence: Evidence) -> Cause:
@@ -387,7 +386,7 @@ def seen(evidence: Evidence, later: Operation, old: Operation, is_numbered: bool
 
 def own_then(evidence: Evidence, arrival: Receipt | None) -> str:
     """Where changes carry positions, which changes of its own a replica had on their way when an insert came that it shows elsewhere; if it had any."""
-    is_told = evidence.kind == POSITIONS and arrival is not None and evidence.on_their_way(arrival)
+    is_told = evidence.kind == POSITIONS and arrival is not None and not evidence.recording.is_delivered(arrival.line) and evidence.on_their_way(arrival)
     return f" {on_way_then(evidence, arrival)}".rstrip() if is_told else ""
 
 

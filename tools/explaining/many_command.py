@@ -171,7 +171,7 @@ def print_table(rows: list, listed: list, is_weak: bool) -> None:
     counts = Counter("weak alone" if row.weak_alone else row.verdict for row in rows)
     told = ", ".join(f"{counts[kind]} {kind}" for kind in [*KINDS[:1], "weak alone", *KINDS[1:]] if counts[kind])
     left = sum(more for _, more in rows_told)
-    unlisted = f"; {left} not listed, which look the same as a listed one (`similar`)" if left else ""
+    unlisted = f"; {left} more look{'s' if left == 1 else ''} the same as a listed one (`similar`)" if left else ""
     print(f"{len(rows)} trace{'' if len(rows) == 1 else 's'}: {told}{unlisted}")
 
 

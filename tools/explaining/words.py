@@ -95,7 +95,7 @@ def when_it_went_wrong(evidence: Evidence, told: Evidence, weak: bool) -> list:
     verdict = verdict_of(told.report)
     is_alone = weak and is_weak_alone(evidence.report)
     before = "the weak specification holds" if weak and not is_alone else "the session is accepted"
-    lines = [f"{did(entry, is_first=True)}. Up to line {last - 1} {before}; line {last} makes it {verdict}"]
+    lines = [f"{did(entry, is_first=True)}. Up to line {last - 1} {before}; with line {last} the verdict is {verdict}"]
     if told.report["verdict"] == "refused":
         still = "agrees with all responses up to then" if weak and not is_alone else "fits"
         is_refused = evidence.report["verdict"] == "refused"  # else what is shown in the end is wrong by itself
@@ -391,7 +391,8 @@ def overtaken(evidence: Evidence, change: Operation, operation: Operation) -> li
     if change.replica == brought.seen.replica:
         return [f"{change.name} has no receipt of its own at replica {replica}, though all other changes of replica {change.replica} have one. {change.name} "
                 f"was lost, or {brought.seen.name} overtook it in line {brought.line}"]
-    return [f"{change.name} has no receipt of its own at replica {replica}. If each operation travels by itself, {brought.seen.name} arrived without {change.name} (line {brought.line}): that is not causal order"]
+    return [f"{change.name} has no receipt of its own at replica {replica}. If each operation travels by itself, {brought.seen.name}, whose author had {change.name}, arrived without it (line "
+            f"{brought.line}): that is not causal order"]
 
 
 def neighbours(evidence: Evidence, insert: Operation) -> list:
