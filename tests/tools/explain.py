@@ -63,9 +63,9 @@ def stop(line: int, doing: str, *others: int, together: int = 0) -> str:
     doing += f"; if nothing is wrong there, stop at {arrivals[len(others) > 1]} ({before})" if others else ""
     asked = f"if recording.lines() == {line - 1}: breakpoint()"
     where = "right before the call that reads the list" if "reads the list" in doing else "right before the call that makes the editor apply a change, local or remote"
-    or_first = f", and at {together - 1} in case one call recorded lines {together} to {line}" if together else ""
+    or_first = f" It stops at {together - 1} too, since one call may record several changes at once, here lines {together} to {line}." if together else ""
     asked = f"if recording.lines() in ({together - 1}, {line - 1}): breakpoint()" if together else asked
-    where += f". It stops when {line - 1} lines have been recorded{or_first}."
+    where += f". It stops when {line - 1} lines have been recorded.{or_first}"
     return f"|In a debugger|stop before line {line} of the trace, where {doing}.|In Python, put the next line {where}|{asked}"
 
 
@@ -110,7 +110,7 @@ WORDS = [
     ("an insert that takes another element away", 1, "0 ins a 0 : a|0 ins b 1 : a b|0 ins c 1 : a c",
      "Where to look|The replica received nothing between 0.2 (line 4) and this response, so look at the local insert itself: at what it does to the list, and at which ids it puts into the change that it sends." + stop(5, "replica 0 inserts c")),
     ("a delete where the order of two at its place differs already", 2, "0 ins a 0 : a|0 ins w 1 : a w|1 ins c 0 : c|1 recv 0 1|1 read : a c|1 del c : a|0 recv 1 1|0 recv 1 3|0 read : c a",
-     "Where to look|c and a were inserted at one place without knowing of each other, and are shown in two orders: c before a in 0.3 (line 11), a before c in 1.2 (line 7). Look first at the order of concurrent inserts: it must be decided by a rule that never ties (such as comparing the replicas' numbers; inserted letters may be equal). Where the order differs, a later change by position hits another element.|It looks as if 1.3 (line 8), applied at replica 0, deleted w instead of c: look at "
+     "Where to look|c and a were inserted at one place without knowing of each other, and are shown in two orders: c before a in 0.3 (line 11), a before c in 1.2 (line 7). Look first at the order of concurrent inserts: it must be decided by a rule that never ties (compare the replicas' numbers, for instance, and not the inserted letters, which may be equal). Where the order differs, a later change by position hits another element.|It looks as if 1.3 (line 8), applied at replica 0, deleted w instead of c: look at "
      "how a replica that applies a delete finds the element, and at whether the recorder writes the name of the element that was really deleted." + stop(9, "replica 0 applies 1.1")),
     ("an insert beside a deleted element, where others before it went well", 2, "0 ins a 0 : a|0 ins b 1 : a b|0 ins c 2 : a b c|0 ins z 3 : a b c z|1 recv 0 4|1 read : a b c z|"
      "1 del a : b c z|0 ins p 1 : a p b c z|1 recv 0 5|1 read : p b c z|1 del b : p c z|0 ins q 3 : a p b q c z|1 recv 0 6|1 read : p q c z|1 del c : p q z|"
@@ -269,8 +269,8 @@ WORDS = [
      "line 7 of the trace, 2.1: replica 2 read the list|answered: b|it should hold, in any order: b [a]|"
      "before it: replica 2 did nothing, and received 1.1 (line 6)|Missing|"
      "[a] inserted by 0.1 (line 3), which arrived at replica 1 in line 4 (1 recv 0 1). "
-     "Replica 2 should have had it since line 6 (2 recv 1 1): the author of 1.1 had it|[a] 0.1 has no receipt of its own at replica 2. If "
-     "each operation travels by itself, 1.1, whose author had 0.1, arrived without it (line 6): that is not causal order|[a] is never deleted||Where to look|"
+     "Replica 2 should have had it since line 6 (2 recv 1 1): the author of 1.1 had it|[a] 0.1 has no receipt of its own at replica 2, though the author of 1.1 had it. So "
+     "either the message of line 6 carried 0.1 too, or 1.1 came before 0.1, which is not causal order|[a] is never deleted||Where to look|"
      "Look first at whether 0.1 was lost on its way to replica 2: no receipt there names it. If it was not lost but overtaken, look at the order in which "
      "operations arrive. Your editor may be right, but it needs operations in causal order: apply an operation only after everything that its author had seen, or send all of that along with it. If the editor itself holds "
      f"operations back, write the receipt of each only when it is applied. {GUIDE} shows what to record in each case."),
@@ -495,7 +495,7 @@ WORDS = [
 
 # The cycle of three, and by then all has arrived everywhere. With it other entries, and what the first of the words say where weak is enough.
 ALL_ARRIVED = f"{THREE_WAY}|1 recv 0 2|1 recv 2 1|1 read : b a|2 recv 0 2|2 recv 1 1|2 read : b a"
-ALONE = "weak holds, strong doesn't: this passes, since only the weak list specification is asked for. Why the strong one fails: "
+ALONE = "weak holds, strong doesn't: this passes, since only the weak list specification is asked for: nothing needs mending. Why the strong one fails: "
 FAILS_WEAK = [
     # Where strong failed before, the session went wrong where weak fails.
     ("opposite orders after the cycle", f"{THREE_WAY}|1 recv 0 2|1 recv 2 1|1 read : a b|2 recv 0 2|2 recv 1 1|2 read : a b", "refused 2: ", [
@@ -1210,7 +1210,7 @@ def places(tally: Tally, program: str, folder: str) -> None:
     for name, wanted in FOR_TWO.items():
         got = explain(program, ["--language", name, "-"], text_of(2, "0 ins a 0 : a|0 ins b 1 : a b|1 recv 0 1|1 recv 0 2|1 read : a").encode()).out.decode()
         tally.check(f"a debugger: {name}, receipts that stand together", paragraph(got, "In a debugger").endswith(
-            f". It stops when 5 lines have been recorded, and at 4 in case one call recorded lines 5 to 6.\n    {wanted}"), got)
+            f". It stops when 5 lines have been recorded. It stops at 4 too, since one call may record several changes at once, here lines 5 to 6.\n    {wanted}"), got)
     undelivered(tally, program, folder)
     path.write_text(text_of(2, PLACED))
     for beside, wanted in NOTES:
@@ -1758,7 +1758,8 @@ FIRST_TOLD = {
     "a place from before what came": ("neighbours", 2, "0 ins a 0 : a|0 ins b 1 : a b|0 ins c 2 : a b c|0 ins d 3 : a b c d|1 recv 0 4|1 del a : b c d|0 recv 1 1|0 ins e 2 : b e c d",
         "[e] stands at the place that was position 2 in 0.4 (line 6). Since then replica 0 received the delete of a by 1.1 (line 8). Does the editor still use something from before that (a place, an offset, an index, a copy of the list)? Then every kind of change that arrives must update it."),
     "an order that a delete hides": ("neighbours", 3, "0 ins n 0 : n|1 ins o 0 : o|2 recv 0 1|2 recv 1 1|2 read : n o|2 ins l 1 : n l o|0 del n :|0 recv 1 1|0 read : o|0 recv 2 2|0 read : o l",
-        "[l] was put directly behind n (0.1 (line 3)), and n and [o] were inserted at the front without knowing of each other. n is deleted at replica 0, which never showed n and [o] together: perhaps replica 0 keeps these in another order than replica 2, and puts [l] beside n. So look first at the order of the concurrent inserts n and [o]: at where the two were put when they arrived, in line 5, line 6 and line 10."),
+        "[l] was put directly behind n (0.1 (line 3)), and n and [o] were inserted at the front without knowing of each other. n is deleted at replica 0, which never showed n and [o] together: perhaps it still keeps n, but on the other side of [o] than replica 2 has it. Then "
+        "[l], put rightly beside n, stands there too. So look first at where these concurrent inserts were put when they arrived: n in line 5 (replica 2), o in line 6 (replica 2) and o in line 10 (replica 0)."),
     "one replica alone in its order": ("positions", 3, "2 ins a 0 : a|2 ins b 0 : b a|1 ins c 0 : c|2 recv 1 1|2 read : b c a|0 recv 1 1|0 recv 2 1|0 read : a c|1 recv 2 1|1 read : a c",
         "Replicas 0 and 1 show a before c. Replica 2 alone shows them the other way round, first in 2.3 (line 7): so look first at what it did in line 6, when 1.1 came. When 1.1 arrived, replica 2 had two changes of its own that the author of 1.1 did not know yet: the insert of a by 2.1 (line 3) and the insert of b by 2.2 (line 4). 1.1 must be adjusted for the first of these, the result for the second, and so on. At each step also adjust the own "
         "change of that step, for 1.1 as it was before the step. The same holds for changes in a buffer."),
@@ -1873,7 +1874,7 @@ def first_told(tally: Tally, program: str, folder: str) -> None:
     for kind, line, doing in ("identifiers", 5, "replica 1 inserts b"), ("neighbours", 6, "replica 0 applies 1.1"):
         told = explain(program, ["--editor", kind, str(path)]).out.decode()
         tally.check(f"first told: {kind}: where an identifier is made: the debugger", f"\n  stop before line {line} of the trace, where {doing}; if nothing is wrong there, stop at" in told, told)
-    rivals = "b and a were inserted into one gap without knowing of each other. Which of them comes first must be decided by a rule that never ties (such as comparing the replicas' numbers; inserted letters may be equal)"
+    rivals = "b and a were inserted into one gap without knowing of each other. Which of them comes first must be decided by a rule that never ties and is the same on client and server (compare the replicas' numbers, for instance, and not the inserted letters, which may be equal)"
     for what, entries, is_rival in (
             ("into nothing", "0 ins a 0 : a|1 ins b 0 : b|0 del a :|1 recv 0 1|1 read : b a|1 recv 0 2|1 read : a", True),
             ("beside what the other had not", "0 ins x 0 : x|0 ins a 1 : x a|1 ins c 0 : c|1 ins b 0 : b c|0 del a : x|1 recv 0 2|1 read : x b a c|1 recv 0 3|1 read : x a c", True),

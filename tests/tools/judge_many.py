@@ -385,18 +385,18 @@ TIED = "0 ins a 0 : a|1 ins b 0 : b|0 recv 1 1|0 read : a b|1 recv 0 1|1 read :"
 IN_TURN = "0 ins a 0 : a|1 recv 0 1|1 ins b 1 : a b|0 recv 1 1|0 read : a b|1 read : a b|0 ins c 2 : a b c|1 recv 0 3|1 read : a b c"
 IN_COMMON = {
     "deleted twice": ([(5, BEGUN_TWICE)], [(2, RIGHT_TWICE), (10, RIGHT_ONCE)], [
-        "  before all 5: a delete arrived whose element was deleted there already (also in 2 of those that pass)",
-        "  before all 5: a change arrived whose author had not seen one of the receiver's own changes (also in 2 of those that pass)"]),
+        "  before all 5, and in 2 that pass: a delete arrived whose element was deleted there already",
+        "  before all 5, and in 2 that pass: a change arrived whose author had not seen one of the receiver's own changes"]),
     # Of 48 correct lists 12 come so: one in each failing session, two in each of the four that pass.
     "at one place": ([(4, f"{TIED} b a")], [(4, f"{TIED} a b"), (4, IN_TURN)], [
-        "  right before all 4: an insert arrived at a place where an element stood that its author had not seen (also before 25 % of the correct lists)",
-        "  right before all 4: a change arrived whose author had not seen one of the receiver's own changes (also before 25 % of the correct lists)",
+        "  right before all 4, and before 25 % of the correct lists: an insert arrived at a place where an element stood that its author had not seen",
+        "  right before all 4, and before 25 % of the correct lists: a change arrived whose author had not seen one of the receiver's own changes",
         "  not needed: 4 fail without any delete"]),
     "none that pass, and few lists": ([(3, BEGUN_ONCE)], [], []),
     # Of 24 correct lists 8 come so.
     "none that pass": ([(8, f"{TIED} b a")], [], [
-        "  right before all 8: an insert arrived at a place where an element stood that its author had not seen (also before 33 % of the correct lists)",
-        "  right before all 8: a change arrived whose author had not seen one of the receiver's own changes (also before 33 % of the correct lists)",
+        "  right before all 8, and before 33 % of the correct lists: an insert arrived at a place where an element stood that its author had not seen",
+        "  right before all 8, and before 33 % of the correct lists: a change arrived whose author had not seen one of the receiver's own changes",
         "  not needed: 8 fail without any delete"]),
     "too few": ([(2, BEGUN_TWICE)], [(10, RIGHT_ONCE)], []),
     "nothing stands out": ([(3, BEGUN_TWICE)], [(9, RIGHT_TWICE)], []),
@@ -435,7 +435,7 @@ def what_is_common(tally: Tally, program: str, folder: str) -> None:
         weak = ["--weak"] if bug in planted.BEHIND_SERVER else []
         done = subprocess.run([TOOL, "--program", program, "--failing", *weak, str(place)], capture_output=True, text=True)
         first = done.stdout.partition(", the most telling first:\n  ")[2].partition("\n")[0]
-        tally.check(f"in common: planted: {bug}", f": {wanted} (" in first if wanted else done.returncode == 0 and "in common" not in done.stdout, done)
+        tally.check(f"in common: planted: {bug}", first.endswith(f": {wanted}") if wanted else done.returncode == 0 and "in common" not in done.stdout, done)
         without = {words for words in ("any delete", "changes that don't know of each other") if f"fail without {words}" in done.stdout}
         needless = {"clock": {"any delete", "changes that don't know of each other"}, "tie": {"any delete"}, "behind": {"any delete"}}  # the others need both
         tally.check(f"in common: planted: {bug}: what it does not need", without == needless.get(bug, set()), done)
@@ -540,7 +540,7 @@ def situations(tally: Tally, program: str, folder: str) -> None:
             ("not of big ones", in_common.in_common([row("big.trace", fails_at=8)] * 3 + [wrong] * 57 + right_ones[:1] * 50), "What 58 of 60 failures have in common, compared with 50 sessions that pass.")):
         tally.check(f"in common: {name}", (found[0] if found else "").startswith(head) and bool(found) == bool(head), found)
     found = in_common.in_common([wrong] * 39 + [other] + right_ones[:1] * 9)
-    tally.check("in common: of most", any(line.startswith("  before 39 of the 40: a delete arrived whose element") for line in found), found)
+    tally.check("in common: of most", any(line.startswith("  before 39 of the 40, and in 0 that pass: a delete arrived whose element") for line in found), found)
 
 
 def time_of_common(tally: Tally, program: str, folder: str) -> None:

@@ -57,12 +57,12 @@ WRONG_DELETE = ("It looks as if {delete}, applied at replica {replica}, deleted 
                 "delete finds the element, and at whether the recorder writes the name of the element that was really deleted.")
 WRONG_LOCAL_DELETE = ("It looks as if {delete} deleted {missing} instead of {surplus}: look at how a local delete finds the element, and at whether the recorder writes the name of the element that "
                       "was really deleted.")
-RIVALS = (" {missing} and {element} were inserted into one gap without knowing of each other. Which of them comes first must be decided by a rule that never ties (such as comparing the replicas' "
-          "numbers; inserted letters may be equal) and is the same on client and server; else the delete hits the other one.")
+RIVALS = (" {missing} and {element} were inserted into one gap without knowing of each other. Which of them comes first must be decided by a rule that never ties and is the same "
+          "on client and server (compare the replicas' numbers, for instance, and not the inserted letters, which may be equal); else the delete hits the other one.")
 WRONG_POSITION = ("It looks as if {delete}, applied at replica {replica}, deleted {missing} instead of {surplus}: look at how the position of {name} is adjusted there; and at whether the recorder "
                   "writes the name of the element that was really deleted.")
 TIED = ("{one} and {two} were inserted at one place without knowing of each other, and are shown in two orders: {one} before {two} in {before}, {two} before {one} in {after}. "
-        "Look first at the order of concurrent inserts: it must be decided by a rule that never ties (such as comparing the replicas' numbers; inserted letters may be equal). Where the order "
+        "Look first at the order of concurrent inserts: it must be decided by a rule that never ties (compare the replicas' numbers, for instance, and not the inserted letters, which may be equal). Where the order "
         "differs, a later "
         "change by position hits another element.")
 MISNAMED = ("{deletes} delete{s} {named}; but {wrong}, while {missing}. Look at which ids a local delete puts into the change that it sends{several}.")

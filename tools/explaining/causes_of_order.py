@@ -73,8 +73,8 @@ SETTLED_BY = {
                "each client, and at whether the two inserts and the delete of [{middle}] are processed in the same order everywhere.",
 }
 HIDDEN_ORDER = ("[{new}] was put directly {side} {hidden} ({insert}), and {hidden} and [{old}] were inserted{place} without knowing of each other. {hidden} is deleted at replica {replica}, which "
-                "never showed {hidden} and [{old}] together: perhaps replica {replica} keeps these in another order than replica {author}, and puts [{new}] beside {hidden}. So look first at the order of the "
-                "concurrent inserts {hidden} and [{old}]: at where the two were put when they arrived, in {lines}.")
+                "never showed {hidden} and [{old}] together: perhaps it still keeps {hidden}, but on the other side of [{old}] than replica {author} has it. Then [{new}], put rightly beside {hidden}, stands there "
+                "too. So look first at where these concurrent inserts were put when they arrived: {arrivals}.")
 PAST = ("If inserts find their place by a neighbour, look at how [{other}] found its place{there}: if the search goes past [{behind}], it must also go past all that was put behind [{behind}], also "
         "where these elements go on in the next block (if the list is kept in blocks).")
 INSIDE = ("{operation} shows [{new}] between [{left}] and [{right}], though [{one}] was put directly {side} [{beside}] by {insert}, which did not know of it. In a tree an element stands beside a "
@@ -361,9 +361,9 @@ def hidden_order(evidence: Evidence, later: Operation, old: Operation) -> list:
         return []
     if any(beside in one.response and old.element in one.response for one in evidence.recording.streams[unlike.replica][:unlike.n]):
         return []
-    lines = sorted({evidence.line_at(insert, replica) for insert in (hidden, old) for replica in (later.replica, unlike.replica) if insert.replica != replica})
+    arrivals = sorted({(evidence.line_at(insert, replica), insert.element, replica) for insert in (hidden, old) for replica in (later.replica, unlike.replica) if insert.replica != replica})
     return [Cause("hidden order", HIDDEN_ORDER.format(new=later.element, side="behind" if told["side"] == "before" else "before", hidden=beside, insert=at(hidden), old=old.element,
-                                                      replica=unlike.replica, author=later.replica, place=place_of_both(hidden, old), lines=joined([f"line {line}" for line in lines])))]
+                                                      replica=unlike.replica, author=later.replica, place=place_of_both(hidden, old), arrivals=joined([f"{element} in line {line} (replica {replica})" for line, element, replica in arrivals])))]
 
 
 def unlike_author(evidence: Evidence, later: Operation, old: Operation) -> Operation:

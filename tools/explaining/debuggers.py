@@ -136,11 +136,11 @@ def statement(recording: Recording, entry: Operation | Receipt, language: str) -
     name, words = LANGUAGES[language]
     is_read = isinstance(entry, Operation) and entry.kind in ("read", "view")
     first = first_together(recording, entry)
-    then, asked = f"It stops when {entry.line - 1} lines have been recorded", words.format(entry.line - 1)
+    then, asked = f"It stops when {entry.line - 1} lines have been recorded.", words.format(entry.line - 1)
     if first < entry.line:
-        then += f", and at {first - 1} in case one call recorded lines {first} to {entry.line}"
+        then += f" It stops at {first - 1} too, since one call may record several changes at once, here lines {first} to {entry.line}."
         asked = FOR_TWO[language].format(first - 1, entry.line - 1)
-    return [f"In {name}, put the next line {READS if is_read else BEGINS}. {then}.", f"  {asked}"]
+    return [f"In {name}, put the next line {READS if is_read else BEGINS}. {then}", f"  {asked}"]
 
 
 def first_together(recording: Recording, entry: Operation | Receipt) -> int:

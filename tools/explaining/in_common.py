@@ -205,10 +205,10 @@ def standing_out(failing: list, passing: list) -> list:
     for name in IN_WORDS:
         count, others = (sum(name in session.before for session in some) for some in (failing, passing))
         if len(passing) >= FEWEST_PASSING and count >= NEARLY_ALL * len(failing):
-            found.append(Telling(weight(count / len(failing), others, len(passing)), name, count, False, f"also in {others} of those that pass"))
+            found.append(Telling(weight(count / len(failing), others, len(passing)), name, count, False, f"and in {others} that pass"))
         count, others = sum(name in session.last for session in failing), sum(name in one for one in lists)
         if len(lists) >= FEWEST_LISTS and count >= MANY_LISTS * len(failing):
-            found.append(Telling(weight(count / len(failing), others, len(lists)), name, count, True, f"also before {round(100 * others / len(lists))} % of the correct lists"))
+            found.append(Telling(weight(count / len(failing), others, len(lists)), name, count, True, f"and before {round(100 * others / len(lists))} % of the correct lists"))
     least = max(TELLING, -log(BY_CHANCE) / len(failing))
     general = set().union(*GENERAL.values())
     told = []
@@ -235,7 +235,7 @@ def in_common(rows: list) -> list:
     passing, lines = sessions(right, False), []
     for one in standing_out(failing, passing):
         which = f"all {one.count}" if one.count == len(failing) else f"{one.count} of the {len(failing)}"
-        lines.append(f"  {'right before' if one.is_right_before else 'before'} {which}: {IN_WORDS[one.name]} ({one.others})")
+        lines.append(f"  {'right before' if one.is_right_before else 'before'} {which}, {one.others}: {IN_WORDS[one.name]}")
     without = unneeded(failing) if lines else []
     lines += [f"  not needed: {', '.join(without)}"] if without else []
     beside = f", compared with {counted(passing, right, 'session')} that pass{'' if right[1:] else 'es'}" if passing else ""

@@ -51,7 +51,7 @@ def explanation(evidence: Evidence, told: Evidence, language: str = debuggers.US
         more = "the same verdict, because of other responses" if is_alike else f"another verdict, {verdict_of(evidence.report)}, which is explained below"
         headline += f" This fault comes first, in lines 1 to {told.last_line}: start with it. The whole trace has {more}."
     if weak and is_weak_alone(evidence.report):
-        headline = f"{WEAK_ALONE}: this passes, since only the weak list specification is asked for. Why the strong one fails: {headline}"
+        headline = f"{WEAK_ALONE}: this passes, since only the weak list specification is asked for: nothing needs mending. Why the strong one fails: {headline}"
     return Explanation(headline, [*when_it_went_wrong(evidence, told, weak), *without_receipts(told), *sections, *where,
                                   *in_a_debugger(told, language, causes), *([] if is_alike else whole), specifications(evidence.report, bool(whole))],
                        tuple(cause.name for cause in causes))
@@ -391,8 +391,8 @@ def overtaken(evidence: Evidence, change: Operation, operation: Operation) -> li
     if change.replica == brought.seen.replica:
         return [f"{change.name} has no receipt of its own at replica {replica}, though all other changes of replica {change.replica} have one. {change.name} "
                 f"was lost, or {brought.seen.name} overtook it in line {brought.line}"]
-    return [f"{change.name} has no receipt of its own at replica {replica}. If each operation travels by itself, {brought.seen.name}, whose author had {change.name}, arrived without it (line "
-            f"{brought.line}): that is not causal order"]
+    return [f"{change.name} has no receipt of its own at replica {replica}, though the author of {brought.seen.name} had it. So either the message of line {brought.line} carried {change.name} too, or "
+            f"{brought.seen.name} came before {change.name}, which is not causal order"]
 
 
 def neighbours(evidence: Evidence, insert: Operation) -> list:
