@@ -63,7 +63,7 @@ def stop(line: int, doing: str, *others: int, together: int = 0) -> str:
     doing += f"; if nothing is wrong there, stop at {arrivals[len(others) > 1]} ({before})" if others else ""
     asked = f"if recording.lines() == {line - 1}: breakpoint()"
     where = "right before the call that reads the list" if "reads the list" in doing else "right before the call that makes the editor apply a change, local or remote"
-    or_first = f" It stops at {together - 1} too, since one call may record several changes at once, here lines {together} to {line}." if together else ""
+    or_first = f" It stops at {together - 1} too: if one call applies lines {together} to {line} together, the count is still {together - 1} before it." if together else ""
     asked = f"if recording.lines() in ({together - 1}, {line - 1}): breakpoint()" if together else asked
     where += f". It stops when {line - 1} lines have been recorded.{or_first}"
     return f"|In a debugger|stop before line {line} of the trace, where {doing}.|In Python, put the next line {where}|{asked}"
@@ -86,7 +86,7 @@ WORDS = [
      "a: inserted by 0.1 (line 3)|b: inserted by 1.1 (line 4)|"
      "b arrived at replica 0 in line 5, a at replica 1 in line 6|"
      "Look at the order of concurrent inserts: a and b were inserted at the front without knowing of each other, and were shown in two different orders. "
-     "Use a rule that gives the same order everywhere (such as the replicas' numbers), never the order of arrival; a short cut, as for appending, must keep to it too.|"
+     "Use a rule that gives the same order everywhere (such as the replicas' numbers), never the order of arrival; a faster path, as for appending, must use this rule too.|"
      "If the list is sorted by position identifiers, look at those of a and b: are the two equal, does one differ between replicas, are numbers compared as text, or is one of them not between the identifiers of its neighbours?" + stop(6, "replica 1 applies 0.1", 5)),
     ("a replica that turns two elements round when it deletes another", 2, "0 ins a 0 : a|1 ins b 0 : b|1 recv 0 1|1 read : a b|1 ins c 2 : a b c|1 del c : b a",
      "[b] before [a]: line 8, 1.4: replica 1 deleted c, answered [b] [a]|Where to look|"
@@ -130,7 +130,7 @@ WORDS = [
      "0.4 (line 9) and 0.5 (line 10) were made one after the other, and came to replica 1 together; there a was deleted already, by 1.2 (line 8), and b is "
      "still shown. If your editor sends both deletes as one change, it looks as if that was applied in part: look at what a replica does where one of several "
      "elements is gone already; it must go on with the others.|It looks as if 0.5 (line 10) was not applied at replica 1: lost, or held back, or `received` is called "
-     "before the change is applied. Or it deleted another element, one that was already deleted there: look at how a replica that applies a delete finds the "
+     "before the change is applied. Or that delete hit another element, one that was already deleted there: look at how a replica that applies a delete finds the "
      "element (is the whole id compared?)." + stop(11, "replica 1 applies 0.5")),
     ("a delete that takes its neighbour along", 2, "0 ins a 0 : a|0 ins b 1 : a b|0 ins c 2 : a b c|1 recv 0 3|1 read : a b c|0 del a : b c|1 recv 0 4|1 read : c",
      "Where to look|It looks as if 0.4 (line 8), applied at replica 1, deleted b along with a: b stood in 1.1 (line 7), and no delete of it has arrived since. Look at where the delete begins, and at how many elements it deletes." + stop(9, "replica 1 applies 0.4")),
@@ -176,16 +176,16 @@ WORDS = [
     ("an insert between two that were put together", 2, "0 ins a 0 : a|0 ins b 1 : a b|1 ins c 0 : c|1 recv 0 2|1 read : a c b|0 recv 1 1|0 read : a b c",
      "[c] before [b]: line 7, 1.2: replica 1 read the list, answered a [c] [b]|Where to look|"
      "[b] was put directly behind [a]. The author of [c] knew neither, and 1.2 (line 7) shows [c] between the two. If inserts find their place by a "
-     "neighbour, look at how [c] found its place there: if the search goes past [a], it must also go past all that was put behind [a], also where these elements go on in the next block (if the list is kept in blocks).|"
+     "neighbour, look at how [c] found its place there: a search that goes past [a] must also go past all that was put behind [a]; in a list that is kept in blocks it must not stop at a block's end.|"
      "Look at the order of concurrent inserts: b and c were inserted without knowing of each other, and were shown in two different orders. Use a rule that "
-     "gives the same order everywhere (such as the replicas' numbers), never the order of arrival; a short cut, as for appending, must keep to it too."),
+     "gives the same order everywhere (such as the replicas' numbers), never the order of arrival; a faster path, as for appending, must use this rule too."),
     ("an insert behind what the other author did not know, which is deleted", 2, "0 ins a 0 : a|0 ins b 1 : a b|0 del a : b|1 ins c 0 : c|1 recv 0 3|"
      "1 read : c b|0 recv 1 1|0 read : b c", "Where to look|"
      "[b] was put directly behind [a], which the author of [c] did not know. If inserts find their place by a neighbour, look at how [c] found its "
-     "place: if the search goes past [a], it must also go past all that was put behind [a], also where these elements go on in the next block (if the list is kept in blocks). Look also at inserts beside "
+     "place: a search that goes past [a] must also go past all that was put behind [a]; in a list that is kept in blocks it must not stop at a block's end. Look also at inserts beside "
      "deleted elements: where [a] was thrown away as deleted, nothing says where [b] belongs.|"
      "Look at the order of concurrent inserts: b and c were inserted without knowing of each other, and were shown in two different orders. Use a rule that "
-     "gives the same order everywhere (such as the replicas' numbers), never the order of arrival; a short cut, as for appending, must keep to it too."),
+     "gives the same order everywhere (such as the replicas' numbers), never the order of arrival; a faster path, as for appending, must use this rule too."),
     ("an insert between two that are deleted by others", 3, "0 ins a 0 : a|0 ins b 1 : a b|1 recv 0 2|2 recv 0 2|2 ins c 1 : a c b|1 del a : b|"
      "0 del b : a|1 recv 0 3|1 read :|1 ins d 0 : d|1 recv 2 1|1 read : c d|2 recv 1 3|2 read : d c",
      "[d] before [c]: line 16 of the trace, 2.2: replica 2 read the list, answered [d] [c]|"
@@ -312,8 +312,7 @@ WORDS = [
     ("a name twice", 1, "0 ins a 0 : a|0 read : a a", "answered: [a] [a]|it should hold, in any order: a|Named more than once|"
      "[a] inserted by 0.1 (line 3), an earlier operation of replica 0"),
     ("a delete that hits what is deleted already", 2, "0 ins a 0 : a|0 ins b 1 : a b|1 recv 0 2|1 read : a b|1 del a : b|0 del b : a|1 recv 0 3|1 read : b",
-     "It looks as if 0.3 (line 8) was not applied at replica 1: lost, or held back, or `received` is called before the change is applied. Or it deleted "
-     "another element, one that was already deleted there: look at how a replica that applies a delete finds the element (is the whole id compared?)."),
+     "It looks as if 0.3 (line 8) was not applied at replica 1: lost, or held back, or `received` is called before the change is applied. Or that delete hit another element, one that was already deleted there: look at how a replica that applies a delete finds the element (is the whole id compared?)."),
     ("a change that is applied twice", 2, "0 ins a 0 : a|0 ins b 1 : a b|1 recv 0 2|1 read : a b a", "Named more than once|"
      "[a] inserted by 0.1 (line 3). Replica 1 should have had it since line 5 (1 recv 0 2): 0.2 is a later operation of its author||Where to look|"
      "It looks as if 0.1 (line 3) was applied twice at replica 1: look at what the editor does with a change that arrives a second time, and at "
@@ -408,19 +407,19 @@ WORDS = [
      "Look first at whether 0.2 (line 4) was lost on its way to replica 1, or overtaken: no receipt there names it, though all other changes of "
      "replica 0 have one. In an editor that sends positions, later changes then land in the wrong place.|"
      "Look at the order of concurrent inserts: c and y were inserted directly behind a without knowing of each other, and were shown in two different orders. Use a "
-     "rule that gives the same order everywhere (such as the replicas' numbers), never the order of arrival; a short cut, as for appending, must keep to it too."
+     "rule that gives the same order everywhere (such as the replicas' numbers), never the order of arrival; a faster path, as for appending, must use this rule too."
      + stop(4, "replica 0 inserts b, and follow 0.2 to replica 1")),
     ("a delete that meets an insert and a delete which did not know each other", 2, "0 ins a 0 : a|0 ins b 1 : a b|0 ins c 2 : a b c|1 recv 0 3|"
      "1 read : a b c|0 del a : b c|1 ins d 3 : a b c d|0 recv 1 2|0 read : b c d|1 del c : a b d|0 recv 1 3|0 read : b c",
      "It looks as if 1.3 (line 12), applied at replica 0, deleted d instead of c: look at how a replica that applies a delete finds the element, and at whether the recorder "
-     "writes the name of the element that was really deleted.|If the editor sends positions, the position of 1.3 was perhaps not adjusted for the delete of a by 0.4 (line 8), which the author of 1.3 had not seen; or replica 0 did not adjust an insert that arrived earlier for a delete that the insert's author had not seen." + stop(13, "replica 0 applies 1.3")),
+     "writes the name of the element that was really deleted.|If the editor sends positions, the position of 1.3 was perhaps not adjusted for the delete of a by 0.4 (line 8), which the author of 1.3 had not seen; or an insert arrived earlier whose author had not seen a delete, and replica 0 did not adjust it for that delete." + stop(13, "replica 0 applies 1.3")),
     ("a delete that takes what is deleted later", 2, "0 ins a 0 : a|0 ins b 1 : a b|1 recv 0 2|1 read : a b|1 del a : b|0 ins c 0 : c a b|0 recv 1 2|"
      "0 read : a b|0 del c : a b",
      "It looks as if 1.2 (line 7), applied at replica 0, deleted c instead of a: look at how a replica that applies a delete finds the element, and at whether the recorder "
      "writes the name of the element that was really deleted.|If the editor sends positions, the position of 1.2 was perhaps not adjusted for the insert of c by 0.3 (line 8), which the author of 1.2 had not seen." + stop(9, "replica 0 applies 1.2")),
     ("an insert that another one at its place has shifted", 2, "0 ins b 0 : b|0 ins c 0 : c b|1 ins a 0 : a|1 recv 0 1|1 read : a b|1 recv 0 2|"
      "1 read : a b c",
-     "When replica 0 inserted [c] (0.2, line 4), it had [b] already, and put [c] before it. That order must hold everywhere, but 1.3 (line 9) shows [c] behind [b]. Look at the message that replica 0 made for that insert, and at where replica 1 placed it in line 8. Often the clock that decides between inserts does not advance when changes arrive, or advances past only the first element of a paste; or the neighbour is not found; or elements are stored in runs (blocks of several), and a run is split at a wrong offset. a was inserted at the same place as c concurrently: look also at which of the two comes first." + stop(8, "replica 1 applies 0.2", 6)),
+     "When replica 0 inserted [c] (0.2, line 4), it had [b] already, and put [c] before it. That order must hold everywhere, but 1.3 (line 9) shows [c] behind [b]. Look at the message that replica 0 made for that insert, and at where replica 1 placed it in line 8. Often the clock that decides between inserts does not advance when changes arrive, or advances past only the first element of a paste; or the neighbour is not found; or elements are stored in runs (blocks of several), and a run is split at a wrong offset. a was inserted at the same place as c concurrently: check also that every replica puts the same of the two first." + stop(8, "replica 1 applies 0.2", 6)),
     ("a receipt that comes before the change is applied", 2, "0 ins a 0 : a|1 recv 0 1|1 read : a|0 ins b 1 : a b|0 del a : b|1 recv 0 3|1 read : a",
      "contents 1.2: this response lacks one element that replica 1 should have had by then, and has one element that should not be there.||"
      "Where to look|"
@@ -481,7 +480,7 @@ WORDS = [
      "had not seen."),
     ("a delete of one of two that were inserted at one place", 2, "0 ins a 0 : a|0 del a :|1 ins b 0 : b|1 recv 0 1|1 read : a b|1 recv 0 2|1 read : a",
      "It looks as if 0.2 (line 4), applied at replica 1, deleted b instead of a: look at how a replica that applies a delete finds the element, and at whether the recorder "
-     "writes the name of the element that was really deleted.|If the editor sends positions, the position of 0.2 was perhaps not adjusted for the insert of b by 1.1 (line 5), which the author of 0.2 had not seen. b was inserted at the same place as a concurrently: look also at which of the two comes first."),
+     "writes the name of the element that was really deleted.|If the editor sends positions, the position of 0.2 was perhaps not adjusted for the insert of b by 1.1 (line 5), which the author of 0.2 had not seen. b was inserted at the same place as a concurrently: check also that every replica puts the same of the two first."),
     ("doubled", 2, "0 ins a 0 : a|0 ins b 1 : a b|1 ins b 0 : b",
      "doubled: 0.2 and 1.1 insert the same name, b. An element is known by its name, so nothing else was judged.|"
      "line 4 of the trace, 0.2: replica 0 inserted b at position 1|line 5, 1.1: replica 1 inserted b at position 0||"
@@ -632,7 +631,7 @@ PLANTED = {
     "clock": (300, 20, ["decides by numbers (a clock, ids) which of two inserts", "the clock that decides between inserts"]),
     "mapping": (150, 40, ["perhaps not adjusted for the delete", "perhaps not adjusted for the insert"]),
     "unmoved": (80, 40, [" was perhaps not adjusted for", "not adjusted for an insert", "not adjusted for inserts"]),
-    "behind": (80, 40, ["order of concurrent inserts", " concurrently: look also at wh"]),
+    "behind": (80, 40, ["order of concurrent inserts", " concurrently: check also that every replica puts"]),
     "twice": (500, 10, ["was already deleted there, by"]),
     "overtaking": (100, 50, ["overtook it in line"]),
     "none": (60, 0, []),
@@ -1210,7 +1209,7 @@ def places(tally: Tally, program: str, folder: str) -> None:
     for name, wanted in FOR_TWO.items():
         got = explain(program, ["--language", name, "-"], text_of(2, "0 ins a 0 : a|0 ins b 1 : a b|1 recv 0 1|1 recv 0 2|1 read : a").encode()).out.decode()
         tally.check(f"a debugger: {name}, receipts that stand together", paragraph(got, "In a debugger").endswith(
-            f". It stops when 5 lines have been recorded. It stops at 4 too, since one call may record several changes at once, here lines 5 to 6.\n    {wanted}"), got)
+            f". It stops when 5 lines have been recorded. It stops at 4 too: if one call applies lines 5 to 6 together, the count is still 4 before it.\n    {wanted}"), got)
     undelivered(tally, program, folder)
     path.write_text(text_of(2, PLACED))
     for beside, wanted in NOTES:
@@ -1761,8 +1760,7 @@ FIRST_TOLD = {
         "[l] was put directly behind n (0.1 (line 3)), and n and [o] were inserted at the front without knowing of each other. n is deleted at replica 0, which never showed n and [o] together: perhaps it still keeps n, but on the other side of [o] than replica 2 has it. Then "
         "[l], put rightly beside n, stands there too. So look first at where these concurrent inserts were put when they arrived: n in line 5 (replica 2), o in line 6 (replica 2) and o in line 10 (replica 0)."),
     "one replica alone in its order": ("positions", 3, "2 ins a 0 : a|2 ins b 0 : b a|1 ins c 0 : c|2 recv 1 1|2 read : b c a|0 recv 1 1|0 recv 2 1|0 read : a c|1 recv 2 1|1 read : a c",
-        "Replicas 0 and 1 show a before c. Replica 2 alone shows them the other way round, first in 2.3 (line 7): so look first at what it did in line 6, when 1.1 came. When 1.1 arrived, replica 2 had two changes of its own that the author of 1.1 did not know yet: the insert of a by 2.1 (line 3) and the insert of b by 2.2 (line 4). 1.1 must be adjusted for the first of these, the result for the second, and so on. At each step also adjust the own "
-        "change of that step, for 1.1 as it was before the step. The same holds for changes in a buffer."),
+        "Replicas 0 and 1 show a before c. Replica 2 alone shows them the other way round, first in 2.3 (line 7): so look first at what it did in line 6, when 1.1 came. When 1.1 arrived, replica 2 had two changes of its own that the author of 1.1 did not know yet: the insert of a by 2.1 (line 3) and the insert of b by 2.2 (line 4). 1.1 must be adjusted for the first of these, the result for the second, and so on; and each of these for 1.1 as it was before that step. Changes that still wait to be sent count too."),
     "one replica alone, with one change on its way": ("positions", 3, "2 ins a 0 : a|1 ins c 0 : c|2 recv 1 1|2 read : c a|0 recv 1 1|0 recv 2 1|0 read : a c|1 recv 2 1|1 read : a c",
         "Replicas 0 and 1 show a before c. Replica 2 alone shows them the other way round, first in 2.2 (line 6): so look first at what it did in line 5, when 1.1 came. When 1.1 arrived, replica 2 had one change of its own that the author of 1.1 did not know yet, the insert of a by 2.1 (line 3): this and 1.1 must each be adjusted for the other."),
     "an order that its author knew, with one change on its way": ("positions", 2, "0 ins a 0 : a|1 recv 0 1|1 read : a|1 ins c 1 : a c|0 ins b 0 : b a|1 recv 0 2|1 read : a b c",
@@ -1821,7 +1819,7 @@ def first_told(tally: Tally, program: str, folder: str) -> None:
     for kind, server in ("positions", ", and at what the server (if it adjusts positions) makes of that"), ("neighbours", ""):
         told = explain(program, ["--editor", kind, str(path)]).out.decode()
         tally.check(f"first told: {kind}: a delete that is wrong at two replicas", f"Replica 2 lacks b too, in 2.2 (line 13): so look first at what is sent{server}, and only then at replica 1. It looks as if" in told, told)
-    own = "When 0.2 arrived, replica 1 had two changes of its own that the author of 0.2 did not know yet: the insert of b by 1.2 (line 6) and the delete of a by 1.3 (line 7). 0.2 must be adjusted for the first of these, the result for the second, and so on. At each step also adjust"
+    own = "When 0.2 arrived, replica 1 had two changes of its own that the author of 0.2 did not know yet: the insert of b by 1.2 (line 6) and the delete of a by 1.3 (line 7). 0.2 must be adjusted for the first of these, the result for the second, and so on; and each of these for 0.2 as it was before that step"
     twice = "0 ins a 0 : a|1 recv 0 1|1 read : a|1 ins b 1 : a b|1 del a : b|0 del a :|1 recv 0 2|1 read :"
     for name, entries, lacks in ("alone", "", False), ("and a third that has got its delete", "|2 recv 1 3|2 recv 0 2|2 read :", False), ("and a third that hasn't", "|2 recv 1 2|2 recv 0 2|2 read :", True):
         path.write_text(text_of(3, twice + entries))
@@ -1866,7 +1864,7 @@ def first_told(tally: Tally, program: str, folder: str) -> None:
     told = explain(program, ["--editor", "neighbours", str(path)]).out.decode()
     tally.check("first told: deletes that stop at others' elements, at two replicas", "0.4 (line 10) was not applied at replica 2: lost, or held back, or `received` is called before the change is applied.\n" in told, told)
     path.write_text(text_of(2, "0 ins a 0 : a|0 ins b 1 : a b|1 recv 0 2|1 read : a b|0 del a : b|1 recv 0 3|1 read : a b"))
-    missed = "If the list is searched by identifiers, print those of the list that replica 1 showed before: where they do not rise, the search misses; then look at how the one out of order was made."
+    missed = "If the list is searched by identifiers, print those of the elements that 1.1 (line 6) shows: where they do not rise, the search misses. Then look at how the identifier that is out of order was made."
     for kind in "identifiers", "neighbours", "positions":
         told = explain(program, ["--editor", kind, str(path)]).out.decode()
         tally.check(f"first told: {kind}: a delete that a search may miss", "0.3 (line 7) was not applied at replica 1" in told and (missed in told) == (kind == "identifiers"), told)
@@ -1901,7 +1899,7 @@ def first_told(tally: Tally, program: str, folder: str) -> None:
         path.write_text(text_of(3, f"{gone}{entries}|0 ins e 1 : c d e|0 recv 1 3"))
         told = explain(program, ["--editor", "tree", str(path)]).out.decode()
         tally.check(f"first told: an element that was deleted twice, {what}", last in told and told.count("more than once") == 1, told)
-    unseen = "The author of 0.3 and 0.4 had not seen c: what deletes a range, by elements or positions, must leave out what its author had not seen."
+    unseen = "The author of 0.3 and 0.4 had not seen c: a delete of a range, by elements or by positions, must leave out what its author had not seen."
     for what, entries in ("had not seen", ""), ("had seen", "|0 recv 1 2|0 read : a c b"):
         path.write_text(text_of(2, f"0 ins a 0 : a|0 ins b 1 : a b|1 recv 0 2|1 read : a b|1 ins c 1 : a c b{entries}|0 del a : {'c b' if entries else 'b'}|0 del b :{' c' if entries else ''}|"
                                    f"1 recv 0 {5 if entries else 4}|1 read :"))

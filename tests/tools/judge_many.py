@@ -705,7 +705,7 @@ def fails_at(tally: Tally, program: str, folder: str) -> None:
     tally.check("fails at: another verdict first, by hand", first == {**dict.fromkeys("abcde"), "g": "contents 1.2", "h": "contents 0.2", "i": "position 1.2"}, first)
     lines = [cells(line) for line in judge(program, [f"{folder}/{name}.trace" for name in "abgh"]).out.decode().splitlines()]
     tally.check("fails at: the table has a column for it", [(Path(line[0]).stem, line[3], line[4]) for line in lines[:-1]] == [
-        ("file", "fails at", "first fault"), ("h", "4", "contents 0.2"), ("g", "4", "contents 1.2"), ("a", "6", "-"), ("b", "6", "-")], lines)
+        ("file", "fails at", "first fault"), ("h", "4", "contents 0.2"), ("g", "4", "contents 1.2"), ("a", "6", "same"), ("b", "6", "same")], lines)
     for row in rows:
         lines = Path(row["file"]).read_bytes().splitlines(keepends=True)
         before, behind = (run(program, ["verdict", "-"], b"".join(lines[:count])).status for count in (row["fails_at"] - 1, row["fails_at"]))
@@ -2177,7 +2177,7 @@ def weak(tally: Tally, program: str, folder: str) -> None:
     told = usual.out.decode()
     tally.check("weak: not asked for", usual.status == 1 and "weak" not in told and not usual.err and told.endswith(
         "5 traces: 1 accepted, 3 refused, 1 contents\n") and [cells(line)[1:6] for line in told.splitlines()[1:5]] == [
-            ("refused", "3", "11", "-", "11"), ("contents", "-", "11", "refused 3", "14"), ("refused", "3", "11", "-", "17"), ("refused", "2", "11", "refused 3", "17")], usual)
+            ("refused", "3", "11", "same", "11"), ("contents", "-", "11", "refused 3", "14"), ("refused", "3", "11", "same", "17"), ("refused", "2", "11", "refused 3", "17")], usual)
     passing = [f"{folder}/{name}.trace" for name in ("alone", "right", "unequal")]
     got = judge(program, ["--weak", *passing])
     tally.check("weak: status 0 where none fails", got.status == 0 and b"\n3 traces: 1 accepted, 2 weak alone\n" in got.out, got)

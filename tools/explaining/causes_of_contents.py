@@ -34,10 +34,9 @@ LATER = {True: " {operation} shows it applied, after the arrival in line {line}:
                 "anew after every change, remote ones too?"}
 ELSEWHERE = {True: " Replica {other} has applied {change}, as {operation} shows: so look at replica {replica}.",
              False: " Replica {other} has not applied {change} either, as {operation} shows: so look first at what is sent{server}."}
-SEARCH_MISSED = (" If the list is searched by identifiers, print those of the list that replica {replica} showed before: where they do not rise, the search misses; then look at how the one out of "
-                 "order "
-                 "was made.")
-OTHER_DELETE = (" Or it deleted another element, one that was already deleted there: look at how a replica that applies a delete finds the element (is the "
+SEARCH_MISSED = (" If the list is searched by identifiers, print those of the elements that {before} shows: where they do not rise, the search misses. Then look at how the identifier that is out of "
+                 "order was made.")
+OTHER_DELETE = (" Or that delete hit another element, one that was already deleted there: look at how a replica that applies a delete finds the element (is the "
                 "whole id compared?).")
 CAME_BEFORE = (" If it arrived before the insert of {elements}, look at the place where deletes wait until their element arrives: a second one must not overwrite the first, and each must be tried "
                "again then.")
@@ -70,7 +69,7 @@ NOT_SHOWN = "{element} does not stand in {before}{unknown}"
 SEVERAL_IDS = ": where it deletes several, each element has an id of its own, and these need not be consecutive"
 MOVED_DELETE = ("If the editor sends positions, the position of {delete} was perhaps not adjusted for {changes}, which the author of {delete} had "
                 "not seen{back}.{tie}")
-MOVED_BEFORE = "; or replica {replica} did not adjust an insert that arrived earlier for a delete that the insert's author had not seen"
+MOVED_BEFORE = "; or an insert arrived earlier whose author had not seen a delete, and replica {replica} did not adjust it for that delete"
 UNKNOWN = ("No line inserts {names}. Perhaps the insert was not recorded, or under another name; or the document was not empty at first: then let one replica insert "
            "what was there, and the others receive it.")
 REPLACED = ("Replica {replica} showed {missing} in {before}; since then it only received {came}, and nothing that came deletes {missing}. Look at what {came_first} does there: "
@@ -78,7 +77,7 @@ REPLACED = ("Replica {replica} showed {missing} in {before}; since then it only 
 VANISHED = "Replica {replica}'s answer in {before} is right, and it has received nothing since. Look at what replica {replica} does between that answer and this one{unrecorded}"
 TOO_MUCH = ("It looks as if {deletes}{applied} deleted {missing} along with {theirs}: {missing} stood in {before}, and no delete of {it} has arrived since. Look at where the delete begins, and at "
             "how many elements it deletes.")
-NOT_SEEN = " The author of {changes} had not seen {missing}: what deletes a range, by elements or positions, must leave out what its author had not seen."
+NOT_SEEN = " The author of {changes} had not seen {missing}: a delete of a range, by elements or by positions, must leave out what its author had not seen."
 SECOND_DELETE = {
     False: "It looks as if {again}{applied} deleted {missing} instead of {element}: look at how a replica that applies a delete finds the element. {element} was already deleted "
            "there, by {first}, so look also at what the editor does with a delete whose element is gone.",
@@ -267,7 +266,7 @@ def other_than(evidence: Evidence, changes: list) -> str:
         return ""
     before = last_whole(evidence, evidence.operations[0])
     is_searched = evidence.kind == IDENTIFIERS and before is not None and all(change.element in before.response for change in changes)
-    missed = SEARCH_MISSED.format(replica=evidence.operations[0].replica) if is_searched else ""
+    missed = SEARCH_MISSED.format(before=at(before)) if is_searched else ""
     return missed + other_delete(evidence, changes)
 
 

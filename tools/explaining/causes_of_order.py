@@ -75,8 +75,8 @@ SETTLED_BY = {
 HIDDEN_ORDER = ("[{new}] was put directly {side} {hidden} ({insert}), and {hidden} and [{old}] were inserted{place} without knowing of each other. {hidden} is deleted at replica {replica}, which "
                 "never showed {hidden} and [{old}] together: perhaps it still keeps {hidden}, but on the other side of [{old}] than replica {author} has it. Then [{new}], put rightly beside {hidden}, stands there "
                 "too. So look first at where these concurrent inserts were put when they arrived: {arrivals}.")
-PAST = ("If inserts find their place by a neighbour, look at how [{other}] found its place{there}: if the search goes past [{behind}], it must also go past all that was put behind [{behind}], also "
-        "where these elements go on in the next block (if the list is kept in blocks).")
+PAST = ("If inserts find their place by a neighbour, look at how [{other}] found its place{there}: a search that goes past [{behind}] must also go past all that was put behind [{behind}]; in a "
+        "list that is kept in blocks it must not stop at a block's end.")
 INSIDE = ("{operation} shows [{new}] between [{left}] and [{right}], though [{one}] was put directly {side} [{beside}] by {insert}, which did not know of it. In a tree an element stands beside a "
           "sibling and all that hangs on that: look at how the place before or behind a sibling is found, by the first or last of all that hangs on it, and only then at the order of "
           "siblings.")
@@ -85,7 +85,7 @@ BEHIND_UNKNOWN = "[{element}] was put directly behind [{behind}], which the auth
 BEHIND_DELETED = " Look also at inserts beside deleted elements: where [{behind}] was thrown away as deleted, nothing says where [{element}] belongs."
 CONCURRENT = ("Look at the order of concurrent inserts: {first} and {then} were inserted{place} without knowing of each other, and were shown "
               "in two different orders.{rule}{print}")
-RULE = (" Use a rule that gives the same order everywhere (such as the replicas' numbers), never the order of arrival; a short cut, as for appending, must keep to it too.")
+RULE = (" Use a rule that gives the same order everywhere (such as the replicas' numbers), never the order of arrival; a faster path, as for appending, must use this rule too.")
 RULES = {"": RULE, NEIGHBOURS: RULE, IDENTIFIERS: "",
          POSITIONS: " At an equal position the same one must come first on each client, and on the server if it adjusts positions: look at which one your code puts first, for arriving changes and "
                     "for the replica's own ones that are still on their way.",
