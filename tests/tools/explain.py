@@ -63,7 +63,7 @@ def stop(line: int, doing: str, *others: int, together: int = 0) -> str:
     doing += f"; if nothing is wrong there, stop at {arrivals[len(others) > 1]} ({before})" if others else ""
     asked = f"if recording.lines() == {line - 1}: breakpoint()"
     where = "right before the call that reads the list" if "reads the list" in doing else "right before the call that makes the editor apply a change, local or remote"
-    or_first = f" It stops at {together - 1} too: if one call applies lines {together} to {line} together, the count is still {together - 1} before it." if together else ""
+    or_first = f" It stops at {together - 1} too: perhaps one call applies lines {together} to {line} together, and before such a call the count is {together - 1}." if together else ""
     asked = f"if recording.lines() in ({together - 1}, {line - 1}): breakpoint()" if together else asked
     where += f". It stops when {line - 1} lines have been recorded.{or_first}"
     return f"|In a debugger|stop before line {line} of the trace, where {doing}.|In Python, put the next line {where}|{asked}"
@@ -488,13 +488,13 @@ WORDS = [
      "Look at the recorder: each inserted element needs a name of its own, for ever. Two equal letters need two names. Each pasted "
      "element needs a new name; so does an element that comes back by undo, if it comes back as a new one.|"
      "If that name is the editor's own id, the editor made it twice: look at what makes ids. Usual causes: a clock that goes back when a change arrives, or "
-     "at a restart; two replicas with the same number.||The list specifications|"
+     "at a restart; two replicas with the same number; an id made from what can come again, such as a position or the length of the list.||The list specifications|"
      "neither the strong nor the weak one was judged, since two elements have one name"),
 ]
 
 # The cycle of three, and by then all has arrived everywhere. With it other entries, and what the first of the words say where weak is enough.
 ALL_ARRIVED = f"{THREE_WAY}|1 recv 0 2|1 recv 2 1|1 read : b a|2 recv 0 2|2 recv 1 1|2 read : b a"
-ALONE = "weak holds, strong doesn't: this passes, since only the weak list specification is asked for: nothing needs mending. Why the strong one fails: "
+ALONE = "weak holds, strong doesn't: this passes, since only the weak list specification is asked for. Nothing needs mending. Why the strong one fails: "
 FAILS_WEAK = [
     # Where strong failed before, the session went wrong where weak fails.
     ("opposite orders after the cycle", f"{THREE_WAY}|1 recv 0 2|1 recv 2 1|1 read : a b|2 recv 0 2|2 recv 1 1|2 read : a b", "refused 2: ", [
@@ -558,7 +558,7 @@ FAULTS = [
     (b"trace 1\nreplicas 1\n0 ins a,1 0 : a,1\n", "line 3: shape",
      "`a,1`, after `ins`, is not a name (1 to 32 letters, digits, `_`, `-` or `.`)"),
     (b"trace 1\nreplicas 1\n0 ins a first : a\n", "line 3: shape",
-     "`first`, after the element, is not a number (digits without leading zeros, at most 4294967295)"),
+     "after the element stands `first`; its position belongs there, a number (digits without leading zeros, at most 4294967295)"),
     (b"trace 1\nreplicas 1\n0 read : a@1\n", "line 3: shape",
      "`a@1`, in the response, is not a name (1 to 32 letters, digits, `_`, `-` or `.`)"),
     (b"trace 1\nreplicas 1\n0 read : \xc3\xa4\n", "line 3: shape",
@@ -1209,7 +1209,7 @@ def places(tally: Tally, program: str, folder: str) -> None:
     for name, wanted in FOR_TWO.items():
         got = explain(program, ["--language", name, "-"], text_of(2, "0 ins a 0 : a|0 ins b 1 : a b|1 recv 0 1|1 recv 0 2|1 read : a").encode()).out.decode()
         tally.check(f"a debugger: {name}, receipts that stand together", paragraph(got, "In a debugger").endswith(
-            f". It stops when 5 lines have been recorded. It stops at 4 too: if one call applies lines 5 to 6 together, the count is still 4 before it.\n    {wanted}"), got)
+            f". It stops when 5 lines have been recorded. It stops at 4 too: perhaps one call applies lines 5 to 6 together, and before such a call the count is 4.\n    {wanted}"), got)
     undelivered(tally, program, folder)
     path.write_text(text_of(2, PLACED))
     for beside, wanted in NOTES:
@@ -1760,7 +1760,7 @@ FIRST_TOLD = {
         "[l] was put directly behind n (0.1 (line 3)), and n and [o] were inserted at the front without knowing of each other. n is deleted at replica 0, which never showed n and [o] together: perhaps it still keeps n, but on the other side of [o] than replica 2 has it. Then "
         "[l], put rightly beside n, stands there too. So look first at where these concurrent inserts were put when they arrived: n in line 5 (replica 2), o in line 6 (replica 2) and o in line 10 (replica 0)."),
     "one replica alone in its order": ("positions", 3, "2 ins a 0 : a|2 ins b 0 : b a|1 ins c 0 : c|2 recv 1 1|2 read : b c a|0 recv 1 1|0 recv 2 1|0 read : a c|1 recv 2 1|1 read : a c",
-        "Replicas 0 and 1 show a before c. Replica 2 alone shows them the other way round, first in 2.3 (line 7): so look first at what it did in line 6, when 1.1 came. When 1.1 arrived, replica 2 had two changes of its own that the author of 1.1 did not know yet: the insert of a by 2.1 (line 3) and the insert of b by 2.2 (line 4). 1.1 must be adjusted for the first of these, the result for the second, and so on; and each of these for 1.1 as it was before that step. Changes that still wait to be sent count too."),
+        "Replicas 0 and 1 show a before c. Replica 2 alone shows them the other way round, first in 2.3 (line 7): so look first at what it did in line 6, when 1.1 came. When 1.1 arrived, replica 2 had two changes of its own that the author of 1.1 did not know yet: the insert of a by 2.1 (line 3) and the insert of b by 2.2 (line 4). 1.1 must be adjusted for the first of these, what results for the second, and so on. At each of these steps, that change of the replica's own must be adjusted for 1.1 too: for 1.1 as it was before the step. Changes that still wait to be sent count too."),
     "one replica alone, with one change on its way": ("positions", 3, "2 ins a 0 : a|1 ins c 0 : c|2 recv 1 1|2 read : c a|0 recv 1 1|0 recv 2 1|0 read : a c|1 recv 2 1|1 read : a c",
         "Replicas 0 and 1 show a before c. Replica 2 alone shows them the other way round, first in 2.2 (line 6): so look first at what it did in line 5, when 1.1 came. When 1.1 arrived, replica 2 had one change of its own that the author of 1.1 did not know yet, the insert of a by 2.1 (line 3): this and 1.1 must each be adjusted for the other."),
     "an order that its author knew, with one change on its way": ("positions", 2, "0 ins a 0 : a|1 recv 0 1|1 read : a|1 ins c 1 : a c|0 ins b 0 : b a|1 recv 0 2|1 read : a b c",
@@ -1787,6 +1787,14 @@ FIRST_TOLD = {
         "perhaps it was held back until then, or its receipt was written too early.\n"),
     "a delete that may have come before its element": ("tree", 2, "0 ins a 0 : a|0 del a :|1 recv 0 1|1 recv 0 2|1 read : a",
         "It looks as if 0.2 (line 4) was not applied at replica 1: lost, or held back, or `received` is called before the change is applied. If it arrived before the insert of a, look at the place where deletes wait until their element arrives: a second one must not overwrite the first, and each must be tried again then.\n"),
+    "an insert that came twice, its element deleted between": ("", 2, "0 ins a 0 : a|1 recv 0 1|1 read : a|1 del a :|1 recv 0 1|1 read : a",
+        "0.1 (the insert of a) arrived at replica 1 in line 4, and once more in line 7, after a had been deleted there, by 1.2 (line 6). Look at whether the editor passes over what it has received before; "
+        "one that throws deleted elements away must still know which changes it has had.\n"),
+    "an insert that came twice": ("", 2, "0 ins a 0 : a|1 recv 0 1|1 recv 0 1|1 read : a a",
+        "0.1 (the insert of a) arrived at replica 1 in line 4, and once more in line 5. Look at whether the editor passes over what it has received before.\n"),
+    "an element too many, whose insert came twice before it was deleted": ("", 2, "0 ins a 0 : a|1 recv 0 1|1 recv 0 1|1 read : a|1 del a : a", "The replica received nothing between 1.1 (line 6) and this response"),
+    "identifiers before a place that was": ("identifiers", 2, "0 ins a 0 : a|0 ins b 1 : a b|0 ins c 2 : a b c|0 ins d 3 : a b c d|1 recv 0 4|1 del a : b c d|0 recv 1 1|0 ins e 2 : b e c d",
+        "Print the position identifiers of"),
     "identifiers where an author is alone": ("identifiers", 2, f"{BESIDE_DELETED}|0 recv 1 2|0 read : c d", "Print the position identifiers of"),
 }
 
@@ -1819,7 +1827,7 @@ def first_told(tally: Tally, program: str, folder: str) -> None:
     for kind, server in ("positions", ", and at what the server (if it adjusts positions) makes of that"), ("neighbours", ""):
         told = explain(program, ["--editor", kind, str(path)]).out.decode()
         tally.check(f"first told: {kind}: a delete that is wrong at two replicas", f"Replica 2 lacks b too, in 2.2 (line 13): so look first at what is sent{server}, and only then at replica 1. It looks as if" in told, told)
-    own = "When 0.2 arrived, replica 1 had two changes of its own that the author of 0.2 did not know yet: the insert of b by 1.2 (line 6) and the delete of a by 1.3 (line 7). 0.2 must be adjusted for the first of these, the result for the second, and so on; and each of these for 0.2 as it was before that step"
+    own = "When 0.2 arrived, replica 1 had two changes of its own that the author of 0.2 did not know yet: the insert of b by 1.2 (line 6) and the delete of a by 1.3 (line 7). 0.2 must be adjusted for the first of these, what results for the second, and so on. At each of these steps, that change of the replica's own must be adjusted for 0.2 too: for 0.2 as it was before the step."
     twice = "0 ins a 0 : a|1 recv 0 1|1 read : a|1 ins b 1 : a b|1 del a : b|0 del a :|1 recv 0 2|1 read :"
     for name, entries, lacks in ("alone", "", False), ("and a third that has got its delete", "|2 recv 1 3|2 recv 0 2|2 read :", False), ("and a third that hasn't", "|2 recv 1 2|2 recv 0 2|2 read :", True):
         path.write_text(text_of(3, twice + entries))
@@ -1832,6 +1840,11 @@ def first_told(tally: Tally, program: str, folder: str) -> None:
         tally.check(f"first told: {kind}: a delete that is wrong at the server too", (
             "Replica 1 lacks b too, in 1.3 (line 14): so look first at what is sent, and then at replica 2, which changes nothing itself. If that is the server, look at how" in told) == (
                 kind == "positions") and "and only then at replica 2" not in told or kind == "neighbours", told)
+    path.write_text(text_of(2, "|".join([*(f"{r} ins {name} {n} : {' '.join(names[:n + 1])}" for r, names in enumerate(("abcd", "wxyz")) for n, name in enumerate(names)), *(
+        f"{r} recv {1 - r} {n}" for r in (1, 0) for n in (1, 2, 4)), "0 read : a b c d w x z", "1 read : w x y z a b d"])))
+    told = explain(program, [str(path)]).out.decode()
+    tally.check("first told: of what was lost at two replicas, one is looked at first", re.search(
+        r"\nWhere to look\n  Look first at whether 1\.3 was lost on its way to replica 0: .*\n  Look also at whether 0\.3 \(line 5\) was lost on its way to replica 1, ", told) is not None, told)
     counted_twice = "Before that, a was deleted at replica 0 more than once: by 0.4 (line 9), and by 1.2, which came in line 10. If the editor counts how many elements it shows"
     begun = "0 ins a 0 : a|0 ins b 1 : a b|0 ins c 2 : a b c|1 recv 0 3|1 read : a b c|1 del a : b c|0 del a : b c|0 recv 1 2|0 read : b c"
     for kind in "", "tree", "positions":
@@ -1843,7 +1856,7 @@ def first_told(tally: Tally, program: str, folder: str) -> None:
     for kind in "positions", "tree":
         told = explain(program, ["--editor", kind, str(path)]).out.decode()
         tally.check(f"first told: {kind}: of an order that its author knew, a delete before that became nothing", (
-            "Before that, in line 8, replica 1 received 0.2, which deletes a, though it had deleted a itself, by 1.1 (line 6)" in told) == (kind == "positions"), told)
+            "Before that, in line 8, replica 1 received 0.2, which deletes a. Replica 1 had deleted a itself, by 1.1 (line 6), so 0.2 had nothing left to delete there." in told) == (kind == "positions"), told)
     back = "0 ins a 0 : a|0 ins b 1 : a b|0 ins c 2 : a b c|1 recv 0 3|1 read : a b c|0 del b : a c|1 recv 0 4|1 read : a c|1 del a : c|2 recv 0 3|2 read : a b c"
     for what, entries in ("an insert", "2 ins d 2 : a b d c"), ("a delete", "2 del a : b c"), ("several", "2 del a : b c|2 ins d 1 : b d c"):
         shown = "b d c" if "ins" in entries else "b c"
@@ -1932,7 +1945,7 @@ def first_told(tally: Tally, program: str, folder: str) -> None:
     for kind in "positions", "neighbours":
         path.write_text(text_of(2, both))
         told = explain(program, ["--editor", kind, str(path)]).out.decode()
-        tally.check(f"first told: {kind}: a delete that became nothing", ("\n  Before that, in line 11, replica 0 received 1.2, which deletes a, though it had deleted a itself, by 0.3 (line 7)." in told)
+        tally.check(f"first told: {kind}: a delete that became nothing", ("\n  Before that, in line 11, replica 0 received 1.2, which deletes a. Replica 0 had deleted a itself, by 0.3 (line 7), so 1.2 had nothing left to delete there." in told)
                     == (kind == "positions") and "It looks as if 0.4 (line 12) was not applied at replica 1" in told, told)
     path.write_text(text_of(2, "0 ins x 0 : x|0 ins y 1 : x y|1 recv 0 2|1 read : x y|1 del x : y|0 ins z 1 : x z y|1 recv 0 3|1 read : y"))
     for kind in "identifiers", "neighbours":
@@ -2542,7 +2555,11 @@ def weak(tally: Tally, program: str, folder: str) -> None:
     without, got = (explain(program, [*goal, "-"], trace) for goal in ([], ["--weak"]))
     asks, rest = re.subn(rb"  An editor whose server orders .* ask for the weak specification alone \(in the tools by --weak\)\.\n", b"", without.out)[::-1]
     tally.same("weak: it passes, and the explanation follows, but for how to ask for it", (asks, got), (1, Ended(0, ALONE.encode() + rest.replace(
-        b"When it showed", b"When strong came to fail"), b"")))
+        b"When it showed", b"When strong came to fail").replace(b"Where to look\n", b"Where to look, should the strong one hold too\n"), b"")))
+    later = explain(program, ["--weak", "-"], text_of(4, "1 ins x 0 : x|2 recv 1 1|3 recv 1 1|2 ins a 0 : a x|3 ins b 1 : x b|1 del x :|1 recv 2 1|1 recv 3 1|1 read : b a|0 recv 1 3|"
+        "0 ins X 2 : b a X|2 recv 0 1|2 ins A 2 : b a A X|3 recv 0 1|3 ins B 3 : b a X B|0 del X : b a|0 recv 2 2|0 recv 3 2|0 read : b a B A").encode()).out.decode()
+    tally.check("weak: the first lines in which strong fails", later.startswith(f"weak holds, strong doesn't, with two warnings{ALONE[26:]}refused 3: ") and " It fails first in lines 1 to 11, of which the rest tells. The whole trace has " in later
+                and "start with it" not in later, later)
     tally.check("weak: not asked for", without.status == 1 and without.out.startswith(b"refused 3: "), without)
     got = explain(program, ["--weak", "-"], text_of(3, THREE_WAY).encode())
     lines = got.out.decode().split("\n")

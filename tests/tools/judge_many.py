@@ -385,19 +385,19 @@ TIED = "0 ins a 0 : a|1 ins b 0 : b|0 recv 1 1|0 read : a b|1 recv 0 1|1 read :"
 IN_TURN = "0 ins a 0 : a|1 recv 0 1|1 ins b 1 : a b|0 recv 1 1|0 read : a b|1 read : a b|0 ins c 2 : a b c|1 recv 0 3|1 read : a b c"
 IN_COMMON = {
     "deleted twice": ([(5, BEGUN_TWICE)], [(2, RIGHT_TWICE), (10, RIGHT_ONCE)], [
-        "  before all 5, and in 2 that pass: a delete arrived whose element was deleted there already",
-        "  before all 5, and in 2 that pass: a change arrived whose author had not seen one of the receiver's own changes"]),
-    # Of 48 correct lists 12 come so: one in each failing session, two in each of the four that pass.
+        "  a delete arrived whose element was deleted there already: before all 5 wrong lists, and in 2 sessions that pass",
+        "  a change arrived whose author had not seen one of the receiver's own changes: before all 5 wrong lists, and in 2 sessions that pass"]),
+    # Of 48 right lists 12 come so: one in each failing session, two in each of the four that pass.
     "at one place": ([(4, f"{TIED} b a")], [(4, f"{TIED} a b"), (4, IN_TURN)], [
-        "  right before all 4, and before 25 % of the correct lists: an insert arrived at a place where an element stood that its author had not seen",
-        "  right before all 4, and before 25 % of the correct lists: a change arrived whose author had not seen one of the receiver's own changes",
-        "  not needed: 4 fail without any delete"]),
+        "  an insert arrived at a place where an element stood that its author had not seen: right before all 4 wrong lists, and before 25 % of the right ones",
+        "  a change arrived whose author had not seen one of the receiver's own changes: right before all 4 wrong lists, and before 25 % of the right ones",
+        "  not needed: deletes (4 fail without)"]),
     "none that pass, and few lists": ([(3, BEGUN_ONCE)], [], []),
-    # Of 24 correct lists 8 come so.
+    # Of 24 right lists 8 come so.
     "none that pass": ([(8, f"{TIED} b a")], [], [
-        "  right before all 8, and before 33 % of the correct lists: an insert arrived at a place where an element stood that its author had not seen",
-        "  right before all 8, and before 33 % of the correct lists: a change arrived whose author had not seen one of the receiver's own changes",
-        "  not needed: 8 fail without any delete"]),
+        "  an insert arrived at a place where an element stood that its author had not seen: right before all 8 wrong lists, and before 33 % of the right ones",
+        "  a change arrived whose author had not seen one of the receiver's own changes: right before all 8 wrong lists, and before 33 % of the right ones",
+        "  not needed: deletes (8 fail without)"]),
     "too few": ([(2, BEGUN_TWICE)], [(10, RIGHT_ONCE)], []),
     "nothing stands out": ([(3, BEGUN_TWICE)], [(9, RIGHT_TWICE)], []),
 }
@@ -435,15 +435,15 @@ def what_is_common(tally: Tally, program: str, folder: str) -> None:
         weak = ["--weak"] if bug in planted.BEHIND_SERVER else []
         done = subprocess.run([TOOL, "--program", program, "--failing", *weak, str(place)], capture_output=True, text=True)
         first = done.stdout.partition(", the most telling first:\n  ")[2].partition("\n")[0]
-        tally.check(f"in common: planted: {bug}", first.endswith(f": {wanted}") if wanted else done.returncode == 0 and "in common" not in done.stdout, done)
-        without = {words for words in ("any delete", "changes that don't know of each other") if f"fail without {words}" in done.stdout}
-        needless = {"clock": {"any delete", "changes that don't know of each other"}, "tie": {"any delete"}, "behind": {"any delete"}}  # the others need both
+        tally.check(f"in common: planted: {bug}", first.startswith(f"{wanted}: ") if wanted else done.returncode == 0 and "in common" not in done.stdout, done)
+        without = {words for words in ("deletes", "concurrent changes") if re.search(rf"\n  not needed: (.*, )?{words} \(\d+ fail without\)", done.stdout)}
+        needless = {"clock": {"deletes", "concurrent changes"}, "tie": {"deletes"}, "behind": {"deletes"}}  # the others need both
         tally.check(f"in common: planted: {bug}: what it does not need", without == needless.get(bug, set()), done)
     page = (ROOT / "docs" / "many.md").read_text().split("\n    ")
     for seed in range(100):
         Path(folder, "unmoved", f"{seed}.trace").write_text(planted.session("unmoved", seed).text())
     done = subprocess.run([TOOL, "--program", program, "--weak", "--failing", f"{folder}/unmoved"], capture_output=True, text=True)
-    shown = [line for line in page if line.startswith(("What 83 failures", "  right before 64"))]
+    shown = [line for line in page if line.startswith("What 83 failures") or ": right before 64" in line]
     tally.check("in common: as the page shows it", len(shown) == 2 and done.stdout.endswith("\n\n" + "\n".join(line.partition("\n\n")[0] for line in shown) + "\n"), (shown, done))
     Path(folder, "twice", "0.trace").unlink()
     row = rows.Row(f"{folder}/twice/0.trace", "contents", None, 9, 0.0, 1, None, "", fails_at=9)
@@ -517,7 +517,7 @@ def situations(tally: Tally, program: str, folder: str) -> None:
             ("too few lists", [seen_session({one}, {one})] * 6 + [lacks] * 4, [seen_session(others=[set()] * 2)] * 5, [])):
         found = [(telling.name, telling.count, telling.is_right_before) for telling in in_common.standing_out(failing, passing)]
         tally.check(f"standing out: {name}", found == wanted, found)
-    for without, of, told in (1, 5, []), (2, 20, ["2 fail without any delete"]), (2, 21, []), (5, 5, ["5 fail without any delete"]):
+    for without, of, told in (1, 5, []), (2, 20, ["deletes (2 fail without)"]), (2, 21, []), (5, 5, ["deletes (5 fail without)"]):
         found = in_common.unneeded([seen_session(has_delete=False)] * without + [lacks] * (of - without))
         tally.check(f"not needed: {without} of {of}", found == told, found)
     write(folder, {"twice.trace": BEGUN_TWICE, "once.trace": BEGUN_ONCE, "right.trace": f"{BEGUN_ONCE} b"})
@@ -540,7 +540,7 @@ def situations(tally: Tally, program: str, folder: str) -> None:
             ("not of big ones", in_common.in_common([row("big.trace", fails_at=8)] * 3 + [wrong] * 57 + right_ones[:1] * 50), "What 58 of 60 failures have in common, compared with 50 sessions that pass.")):
         tally.check(f"in common: {name}", (found[0] if found else "").startswith(head) and bool(found) == bool(head), found)
     found = in_common.in_common([wrong] * 39 + [other] + right_ones[:1] * 9)
-    tally.check("in common: of most", any(line.startswith("  before 39 of the 40, and in 0 that pass: a delete arrived whose element") for line in found), found)
+    tally.check("in common: of most", any(line.startswith("  a delete arrived whose element was deleted there already: before 39 of the 40 wrong lists, and in no session that passes") for line in found), found)
 
 
 def time_of_common(tally: Tally, program: str, folder: str) -> None:

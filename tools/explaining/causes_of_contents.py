@@ -48,6 +48,9 @@ PAST_OTHERS = "first at whether the delete goes on past {others}, which stood be
 IN_PART = ("{first} and {then} were made one after the other, and came to replica {replica} together; there {element} was deleted already, by {gone}, and {surplus} "
            "{is_} still shown. If your editor sends both deletes as one change, it looks as if that was applied in part: look at what a replica does where one of "
            "several elements is gone already; it must go on with the others.")
+CAME_AGAIN = ("{change} (the insert of {element}) arrived at replica {replica} in line {first}, and once more in line {line}{deleted}. Look at whether the editor passes over what it has received before{by}")
+AND_DELETED = ", after {element} had been deleted there, by {delete}"
+KNOWN_BY = {True: "; one that throws deleted elements away must still know which changes it has had.", False: "."}
 BROUGHT = ("No receipt at replica {replica} names {changes}: {they} as arrived with {brought}, in line {line}. If you record a receipt for each change, "
            "{names} {were} lost, or {brought} overtook {them}.")
 NO_RECEIPT = ("It looks as if {changes} {were} applied at replica {replica} without a receipt: the call of `received` is missing, comes "
@@ -133,6 +136,7 @@ def of_contents(evidence: Evidence) -> list:
     itself = vanished(evidence) if not found and not unknown else []
     if itself:
         return itself
+    found = first_alone(found)
     found[1:1] = emptied(evidence)
     found += healed(evidence)
     found += replaced(evidence) if not found else []
@@ -143,10 +147,17 @@ def of_contents(evidence: Evidence) -> list:
     return [*found, Cause("arrival", otherwise(these, last) if found else last)]
 
 
+def first_alone(causes: list) -> list:
+    """The causes, of which no second one is to be looked at first."""
+    begins = "Look first at whether "
+    firsts = [cause for cause in causes if cause.told.startswith(begins)]
+    return [cause._replace(told="Look also at whether " + cause.told[len(begins):]) if cause in firsts[1:] else cause for cause in causes]
+
+
 def in_response(evidence: Evidence) -> list:
     """The causes that an editor of this kind can have, of which the wrong response itself tells."""
     own = own_gone(evidence)
-    found = [*own, *([] if own else own_back(evidence)), *applied_twice(evidence), *in_part(evidence), *wrong_delete(evidence, evidence.operations[0]), *second_delete(evidence),
+    found = [*own, *came_again(evidence), *([] if own else own_back(evidence)), *applied_twice(evidence), *in_part(evidence), *wrong_delete(evidence, evidence.operations[0]), *second_delete(evidence),
              *overtaken(evidence), *lost_neighbour(evidence)]
     return [cause for cause in found if is_possible(cause.name, evidence.kind)]
 
@@ -159,6 +170,20 @@ def instead(evidence: Evidence, is_overtaken: bool) -> str:
         return LOCAL.format(before=at(before[0]), what="insert" if operation.kind == "ins" else "delete")
     may_be_transport = evidence.unnamed and not is_overtaken
     return ARRIVAL.format(things="three things" if may_be_transport else "two things", transport=TRANSPORT if may_be_transport else "")
+
+
+def came_again(evidence: Evidence) -> list:
+    """Of an element too many, or one that stands twice, whose insert came to the replica a second time; of one too many, after a delete."""
+    operation = evidence.operations[0]
+    for insert in [insert for name in (*evidence.repeated, *evidence.surplus) for insert in evidence.recording.inserts.get(name, [])]:
+        arrival = evidence.recording.arrival(insert, operation.replica) if insert.replica != operation.replica else None
+        deletes = [delete for delete in evidence.recording.deletes.get(insert.element, []) if operation.has_seen(delete)]
+        for receipt in evidence.recording.receipts[operation.replica] if arrival is not None else []:
+            gone = [delete for delete in deletes if evidence.line_at(delete, operation.replica) < receipt.line]
+            if receipt.seen is insert and arrival.line < receipt.line < operation.line and (gone or insert.element in evidence.repeated):
+                return [Cause("came again", CAME_AGAIN.format(change=insert.name, element=insert.element, replica=operation.replica, first=arrival.line, line=receipt.line, by=KNOWN_BY[bool(gone)],
+                                                              deleted=AND_DELETED.format(element=insert.element, delete=at(gone[0])) if gone else ""))]
+    return []
 
 
 def applied_twice(evidence: Evidence) -> list:
@@ -226,7 +251,8 @@ def undelivered(evidence: Evidence) -> Cause:
 def is_loss_likelier(evidence: Evidence, causes: list) -> bool:
     """Whether a change that may have been lost is told before the causes that lie in the response itself: unless one of these is as sure."""
     names, operation = {cause.name for cause in causes}, evidence.operations[0]
-    return any(evidence.recording.arrival(change, replica).line <= operation.line or "overtaken" not in names and (
+    is_told = "overtaken" in names and evidence.kind != POSITIONS and causes[0].name == "overtaken"  # that what is missing itself was lost
+    return any(evidence.recording.arrival(change, replica).line <= operation.line and not is_told or "overtaken" not in names and (
         "not applied" not in names or replica == operation.replica) for change, replica in astray(evidence)[:1])
 
 

@@ -148,14 +148,15 @@ def of_position(evidence: Evidence) -> list:
     others = [other for other in response if other != name]
     at_most = min(operation.at, len(others))
     sorted_by = identifiers(operation, others[max(at_most - 1, 0):at_most], others[at_most:at_most + 1])
+    by_identifiers = [*sorted_by, *kept, *stale, *deleted_twice(evidence), Cause("mapping", otherwise("If that is not the cause", mapped))] if evidence.kind == IDENTIFIERS else []
     if asked < 0 or name not in response or response.index(name) < asked:
-        return [*kept, *stale, *deleted_twice(evidence), Cause("mapping", mapped), *sorted_by]
+        return by_identifiers or [*kept, *stale, *deleted_twice(evidence), Cause("mapping", mapped), *sorted_by]
     passed = response[asked:response.index(name)]
     theirs = "theirs" if passed[1:] else f"that of {passed[0]}"
     are_own = all(insert.replica == operation.replica for one in passed for insert in evidence.recording.inserts.get(one, []))
     gone = beside_gone(evidence, passed[0])
     if has_delete and is_younger_by_name(name, passed):
-        return [*gone, *kept, *stale, *deleted_twice(evidence), Cause("mapping", mapped), *sorted_by]
+        return by_identifiers or [*gone, *kept, *stale, *deleted_twice(evidence), Cause("mapping", mapped), *sorted_by]
     among = "".join(dict.fromkeys(let_out(evidence, operation, insert) for one in passed[:1] for insert in evidence.recording.inserts.get(one, [])[:1]))
     numbers = Cause("numbers", (NUMBERS_TREE if evidence.kind == TREE else NUMBERS).format(element=name, passed=listed(passed, MOST_TOLD), replica=operation.replica, theirs=theirs, causes=CLOCK[are_own]) + among)
     told = [cause for cause in [*gone, *kept, numbers, *sorted_by, *stale, *deleted_twice(evidence)] if is_possible(cause.name, evidence.kind)]

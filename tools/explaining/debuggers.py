@@ -138,7 +138,7 @@ def statement(recording: Recording, entry: Operation | Receipt, language: str) -
     first = first_together(recording, entry)
     then, asked = f"It stops when {entry.line - 1} lines have been recorded.", words.format(entry.line - 1)
     if first < entry.line:
-        then += f" It stops at {first - 1} too: if one call applies lines {first} to {entry.line} together, the count is still {first - 1} before it."
+        then += f" It stops at {first - 1} too: perhaps one call applies lines {first} to {entry.line} together, and before such a call the count is {first - 1}."
         asked = FOR_TWO[language].format(first - 1, entry.line - 1)
     return [f"In {name}, put the next line {READS if is_read else BEGINS}. {then}", f"  {asked}"]
 

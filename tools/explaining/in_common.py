@@ -9,6 +9,7 @@ from typing import NamedTuple
 from .files import Unread, read_file
 from .recordings import Operation, Receipt, Recording
 from .rows import Row
+from .telling import joined
 
 # What came to a replica before it showed a list, or what it did then.
 TWICE, OWN, SEVERAL_OWN = "deleted twice", "own on way", "several on way"
@@ -205,10 +206,10 @@ def standing_out(failing: list, passing: list) -> list:
     for name in IN_WORDS:
         count, others = (sum(name in session.before for session in some) for some in (failing, passing))
         if len(passing) >= FEWEST_PASSING and count >= NEARLY_ALL * len(failing):
-            found.append(Telling(weight(count / len(failing), others, len(passing)), name, count, False, f"and in {others} that pass"))
+            found.append(Telling(weight(count / len(failing), others, len(passing)), name, count, False, f"and in {others or 'no'} session{'s that pass' if others > 1 else ' that passes'}"))
         count, others = sum(name in session.last for session in failing), sum(name in one for one in lists)
         if len(lists) >= FEWEST_LISTS and count >= MANY_LISTS * len(failing):
-            found.append(Telling(weight(count / len(failing), others, len(lists)), name, count, True, f"and before {round(100 * others / len(lists))} % of the correct lists"))
+            found.append(Telling(weight(count / len(failing), others, len(lists)), name, count, True, f"and before {round(100 * others / len(lists))} % of the right ones"))
     least = max(TELLING, -log(BY_CHANCE) / len(failing))
     general = set().union(*GENERAL.values())
     told = []
@@ -220,9 +221,9 @@ def standing_out(failing: list, passing: list) -> list:
 
 def unneeded(failing: list) -> list:
     """What a failure does not need, with how many fail without it."""
-    without = {"any delete": sum(not session.has_delete for session in failing),
-               "changes that don't know of each other": sum(not session.is_concurrent for session in failing)}
-    return [f"{count} fail without {what}" for what, count in without.items() if count >= max(UNNEEDED_FROM * len(failing), 2)]
+    without = {"deletes": sum(not session.has_delete for session in failing),
+               "concurrent changes": sum(not session.is_concurrent for session in failing)}
+    return [f"{what} ({count} fail without)" for what, count in without.items() if count >= max(UNNEEDED_FROM * len(failing), 2)]
 
 
 def in_common(rows: list) -> list:
@@ -235,11 +236,13 @@ def in_common(rows: list) -> list:
     passing, lines = sessions(right, False), []
     for one in standing_out(failing, passing):
         which = f"all {one.count}" if one.count == len(failing) else f"{one.count} of the {len(failing)}"
-        lines.append(f"  {'right before' if one.is_right_before else 'before'} {which}, {one.others}: {IN_WORDS[one.name]}")
+        lines.append(f"  {IN_WORDS[one.name]}: {'right before' if one.is_right_before else 'before'} {which} wrong lists, {one.others}")
     without = unneeded(failing) if lines else []
     lines += [f"  not needed: {', '.join(without)}"] if without else []
+    kinds = sorted({row.verdict for row in wrong})
+    several = f" Their verdicts are not the same ({joined(kinds)}), so there may be more than one bug." if kinds[1:] else ""
     beside = f", compared with {counted(passing, right, 'session')} that pass{'' if right[1:] else 'es'}" if passing else ""
-    return [f"What {counted(failing, wrong, 'failure')} have in common{beside}. Look at what your editor does in these situations, the most telling first:",
+    return [f"What {counted(failing, wrong, 'failure')} have in common{beside}.{several} Look at what your editor does in these situations, the most telling first:",
             *lines] if lines else []
 
 

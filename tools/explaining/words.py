@@ -18,6 +18,7 @@ from .telling import FIRST_STEPS, at, counted, did, joined, listed
 CODE, LOG, NOTED = "In your code", "In your log", "Your notes"  # titles: places of code or of a log; the user's words
 HIDDEN = "What this verdict may hide"  # the title of the section of warnings, the first one
 WHERE = "Where to look"  # that of the likely causes
+WHERE_OF_STRONG = "Where to look, should the strong one hold too"  # where weak alone is asked for
 REFUSED_FIRST = "Look first at the call that was refused (see above): what it was to record is not in the trace."
 MOST_NAMES = 24  # of a list that is shown whole
 AROUND = "a circle, which no order allows"
@@ -44,14 +45,16 @@ def explanation(evidence: Evidence, told: Evidence, language: str = debuggers.US
     alone = [cause for cause in causes if cause.name == ALONE and not weak and is_weak_alone(evidence.report)]
     others = [*(cause for cause in causes if cause.name != ALONE), *of_whole(evidence, told)]
     in_order = [*alone, *others] if evidence.kind == POSITIONS else [*others, *alone]
-    where = [Section(WHERE, [cause.told for cause in in_order])] if causes else []
+    passes = weak and is_weak_alone(evidence.report)
+    where = [Section(WHERE_OF_STRONG if passes else WHERE, [cause.told for cause in in_order])] if causes else []
     whole = whole_trace(evidence, told)
     is_alike = verdict_of(evidence.report) == verdict_of(told.report)  # then more responses would tell nothing new
     if whole:
         more = "the same verdict, because of other responses" if is_alike else f"another verdict, {verdict_of(evidence.report)}, which is explained below"
-        headline += f" This fault comes first, in lines 1 to {told.last_line}: start with it. The whole trace has {more}."
-    if weak and is_weak_alone(evidence.report):
-        headline = f"{WEAK_ALONE}: this passes, since only the weak list specification is asked for: nothing needs mending. Why the strong one fails: {headline}"
+        which = "It fails first in" if passes else "This fault comes first, in"
+        headline += f" {which} lines 1 to {told.last_line}{', of which the rest tells' if passes else ': start with it'}. The whole trace has {more}."
+    if passes:
+        headline = f"{WEAK_ALONE}: this passes, since only the weak list specification is asked for. Nothing needs mending. Why the strong one fails: {headline}"
     return Explanation(headline, [*when_it_went_wrong(evidence, told, weak), *without_receipts(told), *sections, *where,
                                   *in_a_debugger(told, language, causes), *([] if is_alike else whole), specifications(evidence.report, bool(whole))],
                        tuple(cause.name for cause in causes))
