@@ -10,7 +10,7 @@ pub mod Placed
 pub mod StepsRound
 pub mod OnRing
 pub mod Rounds
-pub mod SameParts
+pub mod EdgeWalks
 pub mod OnCycles
 pub mod Cores
 pub mod ShortestFew

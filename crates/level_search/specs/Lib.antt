@@ -8,7 +8,6 @@ pub mod LayerSizes
 pub mod Looks
 pub mod Steps
 pub mod StrongComponents
-pub mod Fresh
 pub mod Thinned
 pub mod Cores
 pub mod Conflicts

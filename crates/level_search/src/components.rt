@@ -3,11 +3,11 @@
 ghost use Rattle.std.specs.Prelude.{◌≡◌, ◌↔◌, ◌<◌, ◌≤◌, ℕ, All, AllPairs, Contains, IfOk, length};
 ghost use Rattle.std.specs.Prelude.{slice_index_or};
 ghost use Rattle.std.specs.Prelude.{true, false, vec_len};
+ghost use Rattle.order_graph.specs.Lists.{lists_of};
 ghost use Rattle.list_search.specs.ScratchView.{Fits};
 ghost use Rattle.level_search.specs.Cores.{LiesOnCycle};
+ghost use Rattle.witness_order.specs.Edges.{AreEdgesOf};
 
-mod edges;
-mod fresh;
 mod guess;
 mod tested;
 
@@ -17,14 +17,20 @@ use list_search::{PlainBound, Scratch, search};
 use order_graph::OrderGraph;
 use std::alloc::Global;
 use tested::is_right;
+use witness_order::Successors;
 
 /// The elements through which a cycle leads, in order of numbers: each is in a strongly connected component
 /// with others.
 ///
-/// The components are guessed, and the guess is tested in one pass over the places. All of it takes time and
-/// memory linear in the elements and the places. If the guess were wrong, a search from each element would
+/// The components are guessed, and the guess is tested, by the edges between neighbouring places. All of it
+/// takes time linear in the elements and the edges, and memory linear in the elements. If the guess were wrong, a search from each element would
 /// tell, which takes long, but no other answer comes of it.
-pub fn elements_on_cycles(alloc: Global, graph: &OrderGraph) -> Result<Vec<u32>, Memory>
+pub fn elements_on_cycles(
+    alloc: Global,
+    graph: &OrderGraph,
+    successors: Successors,
+) -> Result<Vec<u32>, Memory>
+    requires { AreEdgesOf (lists_of graph.now) (length graph.now.elements) successors }
     ensures rising { IfOk result (λ v. AllPairs (λ x y. x < y) v.items) }
     ensures known { IfOk result (λ v. All (λ x. x < length graph.now.elements) v.items) }
     ensures few { IfOk result (λ v. length v.items ≤ length graph.now.elements) }
@@ -33,20 +39,25 @@ pub fn elements_on_cycles(alloc: Global, graph: &OrderGraph) -> Result<Vec<u32>,
 {
     // Its contract has that the responses are proper.
     let _ = graph.elements();
-    let marks = marks_on_cycles(alloc, graph)?;
+    let marks = marks_on_cycles(alloc, graph, successors)?;
     marked(alloc, marks.as_slice())
 }
 
 /// For each element whether a cycle leads through it.
-fn marks_on_cycles(alloc: Global, graph: &OrderGraph) -> Result<Vec<bool>, Memory>
+fn marks_on_cycles(
+    alloc: Global,
+    graph: &OrderGraph,
+    successors: Successors,
+) -> Result<Vec<bool>, Memory>
+    requires { AreEdgesOf (lists_of graph.now) (length graph.now.elements) successors }
     ensures count { IfOk result (λ v. vec_len v ≡ length graph.now.elements) }
     ensures marks { IfOk result (λ v. (x : ℕ) → x < length graph.now.elements
         → (slice_index_or v.items x false ≡ true) ↔ LiesOnCycle graph.now x) }
 {
     // Its contract has that the responses are proper.
     let _ = graph.elements();
-    let guess = guess_components(alloc, graph)?;
-    if !is_right(alloc, graph, &guess)? {
+    let guess = guess_components(alloc, &successors)?;
+    if !is_right(alloc, graph, &successors, &guess)? {
         return searched_marks(alloc, graph);
     }
     let Guess {

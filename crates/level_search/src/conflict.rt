@@ -1,9 +1,11 @@
 //! The conflict number, and the least conflict.
 
-ghost use Rattle.std.specs.Prelude.{◌≡◌, ◌⊎◌, ◌↔◌, ◌<◌, IfOk, IfSome, IsErrOf};
+ghost use Rattle.std.specs.Prelude.{◌≡◌, ◌⊎◌, ◌↔◌, ◌<◌, IfOk, IfSome, IsErrOf, length};
 ghost use Rattle.specification.specs.Conflict.{IsConflictNumber};
+ghost use Rattle.order_graph.specs.Lists.{lists_of};
 ghost use Rattle.level_search.specs.Conflicts.{AreLooksIn, IsFound, IsLeastConflict, IsWithinSearches};
 ghost use Rattle.level_search.specs.Looks.{AreCycleLooks};
+ghost use Rattle.witness_order.specs.Edges.{AreEdgesOf};
 
 use super::MOST_WORKERS;
 use super::cycle_core::Core;
@@ -17,6 +19,7 @@ use order_graph::OrderGraph;
 use shared_bound::NO_OFFER;
 use std::alloc::Global;
 use std::thread::Threads;
+use witness_order::{Successors, successors_of};
 use witnesses::Steps;
 
 /// What the workers have found: the core, the way in which they searched it, and the elements from which; the
@@ -30,14 +33,27 @@ struct Found {
     looked: u64,
 }
 
-/// Searches the core of a graph.
+/// The edges between the neighbouring places of a graph, where so many workers can search it.
+fn edges_for(alloc: Global, graph: &OrderGraph, workers: u32) -> Result<Successors, SearchFault>
+    ensures edges { IfOk result (AreEdgesOf (lists_of graph.now) (length graph.now.elements)) }
+    ensures workers { IsErrOf result SearchFault.Workers ↔ ((workers < 1) ⊎ (MOST_WORKERS < workers)) }
+{
+    if workers < 1 || workers > MOST_WORKERS {
+        return Err(SearchFault::Workers);
+    }
+    Ok(successors_of(alloc, graph)?)
+}
+
+/// Searches the core of a graph with these edges.
 fn search_core<H: Threads + Sync, G: Gate>(
     rt: &H,
     alloc: Global,
     graph: &OrderGraph,
+    successors: Successors,
     workers: u32,
     gate: &G,
 ) -> Result<Found, SearchFault>
+    requires { AreEdgesOf (lists_of graph.now) (length graph.now.elements) successors }
     ensures least { IfOk result (IsFound graph.now) }
     ensures workers { IsErrOf result SearchFault.Workers ↔ ((workers < 1) ⊎ (MOST_WORKERS < workers)) }
 {
@@ -46,7 +62,7 @@ fn search_core<H: Threads + Sync, G: Gate>(
     }
     // Its contract has that the responses are proper.
     let _ = graph.elements();
-    let core = Core::of(alloc, graph)?;
+    let core = Core::of(alloc, graph, successors)?;
     let _ = core.graph.elements();
     let part = core.searched();
     let _ = part.elements();
@@ -94,7 +110,8 @@ pub fn conflict_number<H: Threads + Sync, G: Gate>(
     ensures number { IfOk result (λ k. IsConflictNumber graph.now k) }
     ensures workers { IsErrOf result SearchFault.Workers ↔ ((workers < 1) ⊎ (MOST_WORKERS < workers)) }
 {
-    let found = search_core(rt, alloc, graph, workers, gate)?;
+    let successors = edges_for(alloc, graph, workers)?;
+    let found = search_core(rt, alloc, graph, successors, workers, gate)?;
     if found.least == NO_OFFER {
         Ok(None)
     } else {
@@ -128,7 +145,28 @@ pub fn least_conflict<H: Threads + Sync, G: Gate>(
     ensures cycle { IfOk result (λ found. IfSome found (λ c. AreCycleLooks graph.now c.k c.cycle_looked)) }
     ensures workers { IsErrOf result SearchFault.Workers ↔ ((workers < 1) ⊎ (MOST_WORKERS < workers)) }
 {
-    let found = search_core(rt, alloc, graph, workers, gate)?;
+    let successors = edges_for(alloc, graph, workers)?;
+    least_conflict_along(rt, alloc, graph, successors, workers, gate)
+}
+
+/// The same, where the edges between neighbouring places are known, as where `witness_order::sort` has found no
+/// order.
+pub fn least_conflict_along<H: Threads + Sync, G: Gate>(
+    rt: &H,
+    alloc: Global,
+    graph: &OrderGraph,
+    successors: Successors,
+    workers: u32,
+    gate: &G,
+) -> Result<Option<Conflict>, SearchFault>
+    requires edges { AreEdgesOf (lists_of graph.now) (length graph.now.elements) successors }
+    ensures conflict { IfOk result (IsLeastConflict graph.now) }
+    ensures looked { IfOk result (λ found. IfSome found (λ c. AreLooksIn graph.now c.k c.looked)) }
+    ensures few { IfOk result (λ found. IfSome found (λ c. IsWithinSearches graph.now c.looked)) }
+    ensures cycle { IfOk result (λ found. IfSome found (λ c. AreCycleLooks graph.now c.k c.cycle_looked)) }
+    ensures workers { IsErrOf result SearchFault.Workers ↔ ((workers < 1) ⊎ (MOST_WORKERS < workers)) }
+{
+    let found = search_core(rt, alloc, graph, successors, workers, gate)?;
     if found.least == NO_OFFER {
         return Ok(None);
     }

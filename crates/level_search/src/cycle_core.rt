@@ -8,6 +8,7 @@ use super::thinning::thinned;
 use events::Memory;
 use order_graph::OrderGraph;
 use std::alloc::Global;
+use witness_order::Successors;
 
 /// The elements of a graph through which a cycle leads, by their numbers, and the graph of these alone; and the
 /// same without the lists that others hold, where that is much smaller.
@@ -22,11 +23,15 @@ impl Core {
     ghost use Rattle.specification.specs.LayerRule.{narrowed};
     ghost use Rattle.specification.specs.Responses.{place_count};
     ghost use Rattle.order_graph.specs.Kept.{names_at};
+    ghost use Rattle.order_graph.specs.Lists.{lists_of};
+    ghost use Rattle.witness_order.specs.Edges.{AreEdgesOf};
     ghost use Rattle.level_search.specs.Cores.{IsCoreOf};
     ghost use Rattle.level_search.specs.Thinned.{searched_of, IsThinned};
 
-    /// The core of a graph. It takes time and memory linear in the elements and the places.
-    pub fn of(alloc: Global, graph: &OrderGraph) -> Result<Core, Memory>
+    /// The core of a graph with these edges, which are let go before its lists are made. It takes time and memory
+    /// linear in the elements and the places.
+    pub fn of(alloc: Global, graph: &OrderGraph, successors: Successors) -> Result<Core, Memory>
+        requires { AreEdgesOf (lists_of graph.now) (length graph.now.elements) successors }
         ensures elements { IfOk result (λ c. IsCoreOf graph.now c.elements.items) }
         ensures graph { IfOk result (λ c. c.graph
             ≡ narrowed graph.now (names_at graph.now.elements c.elements.items)) }
@@ -36,7 +41,7 @@ impl Core {
     {
         // Its contract has that the responses are proper.
         let _ = graph.elements();
-        let elements = elements_on_cycles(alloc, graph)?;
+        let elements = elements_on_cycles(alloc, graph, successors)?;
         let part = graph.narrowed(alloc, &elements)?;
         let fewer = thinned(alloc, &part)?;
         Ok(Core {

@@ -23,6 +23,7 @@ use order_graph::OrderGraph;
 use ring::{Ring, least_ring};
 use std::alloc::Global;
 use steps::steps_of;
+use witness_order::successors_of;
 use witnesses::Steps;
 
 /// The steps of a cycle, and how many looks the search for it took, up to 18446744073709551615.
@@ -45,7 +46,7 @@ pub fn least_cycle(alloc: Global, graph: &OrderGraph, k: u32) -> Result<Steps, M
 {
     // Its contract has that the responses are proper.
     let _ = graph.elements();
-    let core = Core::of(alloc, graph)?;
+    let core = Core::of(alloc, graph, successors_of(alloc, graph)?)?;
     let _ = core.graph.elements();
     let searched = core.searched();
     let _ = searched.elements();

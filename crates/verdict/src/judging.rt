@@ -14,12 +14,12 @@ ghost use Rattle.verdict.specs.VerdictOf.{IsRefusal, verdict_of};
 use super::verdict::Verdict;
 use contents_check::{Checked, check};
 use events::Recording;
-use level_search::{Conflict, Gate, MOST_WORKERS, SearchFault, least_conflict};
+use level_search::{Conflict, Gate, MOST_WORKERS, SearchFault, least_conflict_along};
 use order_graph::OrderGraph;
 use std::alloc::Global;
 use std::thread::Threads;
 use visibility::Sight;
-use witness_order::order;
+use witness_order::{Sorted, sort};
 use witnesses::Order;
 
 /// The verdict on a recording.
@@ -93,14 +93,17 @@ pub fn verdict_and_graph<H: Threads + Sync, G: Gate>(
         Checked::Sound(numbered) => numbered,
     };
     let graph = OrderGraph::of_covering(recording, numbered);
-    if let Some(order) = order(alloc, &graph)? {
-        return Ok(Judged {
-            verdict: accepted(recording, &graph, order),
-            graph: None,
-            looked: 0,
-        });
-    }
-    let found = least_conflict(rt, alloc, &graph, workers, gate)?;
+    let successors = match sort(alloc, &graph)? {
+        Sorted::Order(order) => {
+            return Ok(Judged {
+                verdict: accepted(recording, &graph, order),
+                graph: None,
+                looked: 0,
+            });
+        },
+        Sorted::Cyclic(successors) => successors,
+    };
+    let found = least_conflict_along(rt, alloc, &graph, successors, workers, gate)?;
     Ok(refused(recording, graph, found))
 }
 

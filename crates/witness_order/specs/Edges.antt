@@ -1,7 +1,7 @@
 -- What stands right after each element, and the edges of a graph that this makes: one from an element to each
 -- of its successors, as often as it is listed.
 use Rattle.std.specs.Prelude.{◌≡◌, ℕ, zero, suc, ◌+◌, ◌<◌, ◌≤◌, ◌==◌, ◌↔◌, if◌then◌else◌, List, [], ◌∷◌}
-use Rattle.std.specs.Prelude.{All, Contains, map, length, sum_by, count_by, slice_index, slice_index_or}
+use Rattle.std.specs.Prelude.{All, Contains, map, length, sum_by, count_by, slice_index, slice_index_or, vec_len}
 use Rattle.std.specs.List.{range_with_len}
 use Rattle.order_graph.specs.Lists.{row, Stands}
 use Rattle.witness_order.specs.declared.successors.Edge.{Edge}
@@ -79,3 +79,10 @@ pub record AreLinked (edges : List Edge) (heads indegrees : List ℕ) : Type 0 w
 -- the same of the edges of all elements
 abbrev pub AreKept : Successors → Type 0
 AreKept s = AreLinked s.edges.items s.heads.items s.indegrees.items
+
+-- the edges between what stands side by side in these lists, of n elements; nothing is said of the counts
+pub record AreEdgesOf (rows : List (List ℕ)) (n : ℕ) (s : Successors) : Type 0 where
+  pub successors : AreSuccessors rows n (lists_in s)
+  pub count : vec_len s.heads ≡ n
+  pub falling : AreFalling s.edges.items
+  pub within : (x : ℕ) → slice_index s.heads.items x ≤ length s.edges.items

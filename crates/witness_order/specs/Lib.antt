@@ -1,3 +1,4 @@
--- What contracts of this crate see: the edges between neighbouring places, and what is taken in turn.
+-- What contracts of this crate see: the edges between neighbouring places, what is taken in turn, and what sorting answers.
 pub mod Edges
+pub mod Sorted
 pub mod Taken

@@ -9,5 +9,6 @@ mod free;
 mod least_order;
 mod successors;
 
-pub use least_order::{order, taken};
+pub use least_order::{Sorted, order, sort, taken};
+pub use successors::{Edge, Successors, successors_of};
 pub use witnesses::Order;

@@ -3,7 +3,7 @@
 ghost use Rattle.std.specs.Prelude.{◌≡◌, ℕ, ◌+◌, ◌-◌, ◌<◌, ◌≤◌, ◌⊎◌, ◌↔◌, ◌^◌, All, Contains, IfOk, IsTrue};
 ghost use Rattle.std.specs.Prelude.{OnOk, length, vec_len};
 ghost use Rattle.order_graph.specs.Lists.{lists_of, row};
-ghost use Rattle.witness_order.specs.Edges.{lists_in, IsNext, AreSuccessors, edge_at, AreKept};
+ghost use Rattle.witness_order.specs.Edges.{lists_in, IsNext, AreSuccessors, edge_at, AreKept, AreEdgesOf};
 
 use events::Memory;
 use order_graph::OrderGraph;
@@ -26,7 +26,7 @@ pub struct Successors {
     pub edges: Vec<Edge>,
     /// For each element the number of its newest edge; 0 where it has none.
     pub heads: Vec<u32>,
-    /// For each element how many edges lead to it.
+    /// For each element how many edges lead to it; once some are taken, from those that are not.
     pub indegrees: Vec<u32>,
 }
 
@@ -92,11 +92,13 @@ fn note_list(successors: &mut Successors, list: &[u32]) -> Result<(), Memory>
 }
 
 /// For each element, in order of numbers, what stands right after it in some list. A list mostly goes on like
-/// the one before it, so what was listed last for an element is not listed once more.
+/// the one before it, so what was listed last for an element is not listed once more. It is one pass over the
+/// places, and takes memory linear in the elements and the edges.
 pub fn successors_of(alloc: Global, graph: &OrderGraph) -> Result<Successors, Memory>
     ensures successors { IfOk result (λ s. AreSuccessors (lists_of graph.now) (length graph.now.elements)
         (lists_in s)) }
     ensures kept { IfOk result (λ s. AreKept s) }
+    ensures edges { IfOk result (AreEdgesOf (lists_of graph.now) (length graph.now.elements)) }
     ensures count { IfOk result (λ s. vec_len s.heads ≡ length graph.now.elements) }
     ensures few { IfOk result (λ s. vec_len s.heads < 2 ^ 32) }
 {

@@ -1,12 +1,11 @@
-//! A guess at the strongly connected components, by one search in depth over neighbouring places (Tarjan 1972;
+//! A guess at the strongly connected components, by one search in depth along the edges (Tarjan 1972;
 //! low links and components share one list of numbers, as in Pearce 2016). No clause says that it is right:
 //! `components` tests it.
 
-use super::edges::Edges;
 use crate::guesses::{NONE, at, put};
 use events::Memory;
-use order_graph::OrderGraph;
 use std::alloc::Global;
+use witness_order::{Edge, Successors};
 
 /// What is guessed of each element's component, where two elements are in one if each leads to the other.
 #[derive(Drop)]
@@ -43,15 +42,19 @@ impl Guess {
     }
 }
 
-/// Guesses the components. It takes time and memory linear in the elements and the places.
-pub fn guess_components(alloc: Global, graph: &OrderGraph) -> Result<Guess, Memory> {
-    let mut edges = Edges::of(alloc, graph)?;
-    let mut search = DepthSearch {
-        guess: Guess::new(alloc, graph.elements() as usize)?,
-        open: 0,
-        least: graph.elements(),
+/// Guesses the components. It takes time linear in the elements and the edges, and memory linear in the elements.
+pub fn guess_components(alloc: Global, successors: &Successors) -> Result<Guess, Memory> {
+    let elements = successors.heads.len().min(NONE as usize) as u32;
+    let mut edges = Untaken {
+        edges: successors.edges.as_slice(),
+        heads: Vec::from_slice(alloc, successors.heads.as_slice())?,
     };
-    for x in 0..graph.elements() {
+    let mut search = DepthSearch {
+        guess: Guess::new(alloc, elements as usize)?,
+        open: 0,
+        least: elements,
+    };
+    for x in 0..elements {
         if at(&search.guess.ranks, x) == NONE {
             search.search_from(&mut edges, x);
         }
@@ -62,6 +65,35 @@ pub fn guess_components(alloc: Global, graph: &OrderGraph) -> Result<Guess, Memo
         least: _,
     } = search;
     Ok(guess)
+}
+
+/// The edges that the search has not gone along yet.
+#[derive(Drop)]
+struct Untaken<'a> {
+    edges: &'a [Edge],
+    /// For each element the number of its next edge; 0 where none is left.
+    heads: Vec<u32>,
+}
+
+impl<'a> Untaken<'a> {
+    /// Takes the next edge of an element, and tells where it leads to.
+    fn take(&mut self, x: u32) -> Option<u32> {
+        let number = at(&self.heads, x) as usize;
+        if number == 0 || number > self.edges.len() {
+            return None;
+        }
+        let Edge { to, next } = self.edges[number - 1];
+        put(&mut self.heads, x, next);
+        Some(to)
+    }
+
+    /// How many edges there are, and elements, and one more.
+    fn turns(&self) -> usize {
+        self.edges
+            .len()
+            .saturating_add(self.heads.len())
+            .saturating_add(1)
+    }
 }
 
 /// The search in depth, in the direction of the lists. An element is open once the search has come to it, until
@@ -82,7 +114,7 @@ struct DepthSearch {
 
 impl DepthSearch {
     /// Searches from an element. Each turn takes an edge or leaves an element.
-    fn search_from(&mut self, edges: &mut Edges, source: u32) {
+    fn search_from(&mut self, edges: &mut Untaken<'_>, source: u32) {
         self.find(source, NONE);
         let mut x = source;
         for _ in 0..edges.turns() {
@@ -94,7 +126,7 @@ impl DepthSearch {
     }
 
     /// Goes on from an element; to `NONE` from the source, where no edge is left.
-    fn turn(&mut self, edges: &mut Edges, x: u32) -> u32 {
+    fn turn(&mut self, edges: &mut Untaken<'_>, x: u32) -> u32 {
         match edges.take(x) {
             None => self.leave(x),
             Some(y) if at(&self.guess.ranks, y) == NONE => {

@@ -1,16 +1,17 @@
 //! Whether a guess at the components is right.
 
-ghost use Rattle.std.specs.Prelude.{◌≡◌, ℕ, ◌+◌, ◌<◌, ◌≤◌, IfOk, List, true, length, vec_len};
-ghost use Rattle.order_graph.specs.Lists.{lists_of, row, Stands};
+ghost use Rattle.std.specs.Prelude.{◌≡◌, ℕ, ◌<◌, ◌≤◌, Contains, IfOk, List, true, length, vec_len};
+ghost use Rattle.order_graph.specs.Lists.{lists_of};
+ghost use Rattle.witness_order.specs.Edges.{AreEdgesOf, AreNeighbours, lists_in};
 ghost use Rattle.level_search.specs.StrongComponents.{AreLinks, FitsLinks, HasValues, IsLinked, IsNearer};
 ghost use Rattle.level_search.specs.StrongComponents.{IsOwned};
 ghost use Rattle.level_search.specs.StrongComponents.{IsRight, IsTested, after, rank, root};
 
-use super::fresh::{Fresh, fresh_of};
 use super::guess::Guess;
 use events::Memory;
 use order_graph::OrderGraph;
 use std::alloc::Global;
+use witness_order::Successors;
 
 /// Which of the guessed steps are found in the lists.
 #[derive(Drop)]
@@ -35,21 +36,17 @@ fn has_values(guess: &Guess, elements: u32) -> bool
     guess.before.len() == n && guess.forths.len() == n
 }
 
-/// Takes note of two places side by side, of which the second has this number; whether the components don't
-/// fall there.
-fn note_place(graph: &OrderGraph, guess: &Guess, list: u32, j: usize, links: &mut Links) -> bool
+/// Takes note of an edge; whether the components don't fall along it.
+fn note_edge(graph: &OrderGraph, guess: &Guess, a: u32, b: u32, links: &mut Links) -> bool
     requires values { HasValues (length graph.now.elements) guess.now }
     requires fits { FitsLinks (length graph.now.elements) links.old }
-    requires inside { j + 1 < length (row (lists_of graph.now) list) }
+    requires known { (a < length graph.now.elements) × (b < length graph.now.elements) }
+    requires edge { AreNeighbours (lists_of graph.now) a b }
     requires links { AreLinks (lists_of graph.now) guess.now links.old }
     ensures fits { FitsLinks (length graph.now.elements) links.new }
     ensures links { AreLinks (lists_of graph.now) guess.now links.new }
-    ensures climbs { result ≡ true → (x y : ℕ) → Stands (lists_of graph.now) list j x
-        → Stands (lists_of graph.now) list (j + 1) y → rank guess.now x ≤ rank guess.now y }
+    ensures climbs { result ≡ true → rank guess.now a ≤ rank guess.now b }
 {
-    let row = graph.list(list);
-    let a = row[j];
-    let b = row[j + 1];
     if guess.after[a as usize] == b {
         links.after[a as usize] = true;
     }
@@ -59,40 +56,53 @@ fn note_place(graph: &OrderGraph, guess: &Guess, list: u32, j: usize, links: &mu
     guess.ranks[a as usize] <= guess.ranks[b as usize]
 }
 
-/// Takes note of neighbours in a list; whether the components don't fall from one to the other.
-fn note_list(graph: &OrderGraph, guess: &Guess, list: u32, fresh: Fresh, links: &mut Links) -> bool
-    requires within { (1 ≤ fresh.from) × (fresh.to ≤ length (row (lists_of graph.now) list)) }
+/// Takes note of the edges of an element; whether the components fall along none.
+fn note_edges(
+    graph: &OrderGraph,
+    successors: &Successors,
+    guess: &Guess,
+    x: u32,
+    links: &mut Links,
+) -> bool
+    requires edges { AreEdgesOf (lists_of graph.now) (length graph.now.elements) successors.now }
     requires values { HasValues (length graph.now.elements) guess.now }
     requires fits { FitsLinks (length graph.now.elements) links.old }
+    requires known { x < length graph.now.elements }
     requires links { AreLinks (lists_of graph.now) guess.now links.old }
     ensures fits { FitsLinks (length graph.now.elements) links.new }
     ensures links { AreLinks (lists_of graph.now) guess.now links.new }
-    ensures climbs { result ≡ true → (j x y : ℕ) → fresh.from ≤ j + 1 → j + 1 < fresh.to
-        → Stands (lists_of graph.now) list j x → Stands (lists_of graph.now) list (j + 1) y
+    ensures climbs { result ≡ true → (y : ℕ) → AreNeighbours (lists_of graph.now) x y
         → rank guess.now x ≤ rank guess.now y }
 {
-    for j in fresh.from..fresh.to {
-        if !note_place(graph, guess, list, j - 1, links) {
+    let mut number = successors.heads[x as usize];
+    while number != 0 {
+        let edge = successors.edges[number as usize - 1];
+        if !note_edge(graph, guess, x, edge.to, links) {
             return false;
         }
+        number = edge.next;
     }
     true
 }
 
-/// Takes note of all places, but for neighbours that the list before shows too; whether the components fall
-/// along no list.
-fn note_lists(graph: &OrderGraph, guess: &Guess, links: &mut Links) -> bool
+/// Takes note of all edges; whether the components fall along none.
+fn note_all_edges(
+    graph: &OrderGraph,
+    successors: &Successors,
+    guess: &Guess,
+    links: &mut Links,
+) -> bool
+    requires edges { AreEdgesOf (lists_of graph.now) (length graph.now.elements) successors.now }
     requires values { HasValues (length graph.now.elements) guess.now }
     requires fits { FitsLinks (length graph.now.elements) links.old }
     requires links { AreLinks (lists_of graph.now) guess.now links.old }
     ensures fits { FitsLinks (length graph.now.elements) links.new }
     ensures links { AreLinks (lists_of graph.now) guess.now links.new }
-    ensures climbs { result ≡ true → (l j x y : ℕ) → Stands (lists_of graph.now) l j x
-        → Stands (lists_of graph.now) l (j + 1) y → rank guess.now x ≤ rank guess.now y }
+    ensures climbs { result ≡ true → (x y : ℕ) → x < length graph.now.elements
+        → AreNeighbours (lists_of graph.now) x y → rank guess.now x ≤ rank guess.now y }
 {
-    for list in 0..graph.lists() {
-        let fresh = fresh_of(graph, list);
-        if !note_list(graph, guess, list, fresh, links) {
+    for x in 0..graph.elements() {
+        if !note_edges(graph, successors, guess, x, links) {
             return false;
         }
     }
@@ -193,9 +203,15 @@ fn are_tested(graph: &OrderGraph, guess: &Guess, links: &Links) -> bool
 }
 
 /// Whether a guess is right: no list goes from a component to a lesser one, and the elements of each that is
-/// said to have others lead to one of them, and are led to by it. It is one pass over the places, and takes
-/// two marks an element.
-pub fn is_right(alloc: Global, graph: &OrderGraph, guess: &Guess) -> Result<bool, Memory>
+/// said to have others lead to one of them, and are led to by it. It looks once at each edge, and takes two
+/// marks an element.
+pub fn is_right(
+    alloc: Global,
+    graph: &OrderGraph,
+    successors: &Successors,
+    guess: &Guess,
+) -> Result<bool, Memory>
+    requires { AreEdgesOf (lists_of graph.now) (length graph.now.elements) successors.now }
     ensures { IfOk result (λ right. right ≡ true
         → IsRight (length graph.now.elements) (lists_of graph.now) guess.now) }
 {
@@ -207,7 +223,7 @@ pub fn is_right(alloc: Global, graph: &OrderGraph, guess: &Guess) -> Result<bool
         after: Vec::from_elem(alloc, false, elements as usize)?,
         before: Vec::from_elem(alloc, false, elements as usize)?,
     };
-    if !note_lists(graph, guess, &mut links) {
+    if !note_all_edges(graph, successors, guess, &mut links) {
         return Ok(false);
     }
     Ok(are_tested(graph, guess, &links))

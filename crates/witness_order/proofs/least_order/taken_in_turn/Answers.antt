@@ -164,8 +164,8 @@ loop-x-preserved c =
           (λ z i. All-member (λ w. x < w) free z c.in-Some.ensures.least i) removed);
     }
 
-pub returns : goal.returns
-returns c =
+pub returns-clause-taken : goal.returns-clause-taken
+returns-clause-taken c =
     let n : ℕ = length c.args.graph.now.elements in
     let E : ℕ → ℕ → ℕ = edges (lists_in c.args.successors) in
     let taken : List ℕ = c.loop-x.taken.items in
@@ -187,3 +187,11 @@ returns c =
           others_led c.args.graph.now proper (lists_in c.args.successors) c.requires.successors taken
           degrees end;
     }
+
+pub returns-clause-edges : goal.returns-clause-edges
+returns-clause-edges c = record {
+  successors = c.requires.successors;
+  count = c.requires.count;
+  falling = c.requires.kept.falling;
+  within = c.requires.kept.within;
+}

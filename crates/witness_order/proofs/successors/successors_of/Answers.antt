@@ -8,7 +8,7 @@ use Rattle.specification.specs.Elements.{numbers_in}
 use Rattle.specification.specs.Responses.{Responses, Returned}
 use Rattle.order_graph.specs.Lists.{lists_of, row}
 use Rattle.order_graph.proofs.Shown.{lists-total}
-use Rattle.witness_order.specs.Edges.{lists_in, linked_from, IsNext, AreNeighbours}
+use Rattle.witness_order.specs.Edges.{lists_in, linked_from, IsNext, AreNeighbours, AreSuccessors}
 use Rattle.witness_order.proofs.Followed.{known_below}
 use Rattle.witness_order.proofs.Linked.{no-edges}
 use Rattle.witness_order.proofs.Listing.{one-more, neighbours-more, neighbours-all}
@@ -90,22 +90,29 @@ returns c =
     let before = inv.listed x y in
     let whole = neighbours-all rows l x y all in
     (λ h. whole.0 (before.0 h), λ h. before.1 (whole.1 h)) in
+    let found : AreSuccessors rows (length c.args.graph.now.elements) successors = record {
+      size = omega (
+        arith,
+        length-map heads (linked_from edges),
+        count,
+        c.loop-list.successors.heads.ok,
+      );
+      known = λ x k d lt.
+          let y : ℕ = get_or (row successors x) k d in
+          let two : AreNeighbours rows x y = (listed x y).0 (Contains-get_or (row successors x) k d lt) in
+          known_below c.args.graph.now c.elements.ensures.proper two.list
+          (two.place + 1) y two.second;
+      listed = listed;
+    } in
     record {
-      successors = record {
-        size = omega (
-          arith,
-          length-map heads (linked_from edges),
-          count,
-          c.loop-list.successors.heads.ok,
-        );
-        known = λ x k d lt.
-            let y : ℕ = get_or (row successors x) k d in
-            let two : AreNeighbours rows x y = (listed x y).0 (Contains-get_or (row successors x) k d lt) in
-            known_below c.args.graph.now c.elements.ensures.proper two.list
-            (two.place + 1) y two.second;
-        listed = listed;
-      };
+      successors = found;
       kept = inv.kept;
+      edges = record {
+        successors = found;
+        count = count;
+        falling = inv.kept.falling;
+        within = inv.kept.within;
+      };
       count = count;
       few = omega (arith, count, c.elements.ensures.value, c.elements.type_inv);
     }

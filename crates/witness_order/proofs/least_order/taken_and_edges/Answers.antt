@@ -1,6 +1,6 @@
 -- What is said of a vector's slice is said of the vector.
 use Rattle.std.proofs.Common.{◌≡◌, ℕ, ◌<◌, ◌↔◌, List, Contains, length, get_or, ap, subst, arith}
-use Rattle.witness_order.proofs.least_order.taken.Goals as goal
+use Rattle.witness_order.proofs.least_order.taken_and_edges.Goals as goal
 
 pub taken_in_turn-requires-clause-free : goal.taken_in_turn-requires-clause-free
 taken_in_turn-requires-clause-free c =

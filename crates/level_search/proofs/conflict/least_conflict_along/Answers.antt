@@ -8,7 +8,7 @@ use Rattle.level_search.specs.Conflicts.{searched_in}
 use Rattle.level_search.specs.Looks.{AreCycleLooks}
 use Rattle.level_search.specs.Sources.{MeetsCycles}
 use Rattle.level_search.specs.Thinned.{IsThinned}
-use Rattle.level_search.proofs.conflict.least_conflict.Goals as goal
+use Rattle.level_search.proofs.conflict.least_conflict_along.Goals as goal
 
 pub least_cycle_from-requires-clause-shortest : goal.least_cycle_from-requires-clause-shortest
 least_cycle_from-requires-clause-shortest g c =
