@@ -380,7 +380,7 @@ WORDS = [
      "[c] inserted by 0.3 (line 7), which arrived at replica 1 in line 9 (1 recv 0 3)|"
      "[c] was put behind a and before b. When it arrived at replica 1 in line 9, a was already deleted there by 1.2 (line 8)|[c] is never deleted||"
      "Where to look|"
-     "If inserts find their place by a neighbour, look at inserts beside deleted elements: when c arrived, its neighbour was already deleted there, as told above. An editor that throws deleted elements "
+     "If inserts find their place by a neighbour, look at inserts beside deleted elements: when c arrived, its neighbour was already deleted there: a, by 1.2 (line 8). An editor that throws deleted elements "
      "away too early finds no place for it, and loses it or holds it back for ever." + stop(9, "replica 1 applies 0.3")),
     ("an element lost beside two that are there", 2, "0 ins a 0 : a|0 ins b 1 : a b|0 ins c 1 : a c b|1 recv 0 3|1 read : a b",
      "[c] was put behind a and before b. When it arrived at replica 1 in line 6, a and b were still there"),
@@ -412,7 +412,7 @@ WORDS = [
     ("a delete that meets an insert and a delete which did not know each other", 2, "0 ins a 0 : a|0 ins b 1 : a b|0 ins c 2 : a b c|1 recv 0 3|"
      "1 read : a b c|0 del a : b c|1 ins d 3 : a b c d|0 recv 1 2|0 read : b c d|1 del c : a b d|0 recv 1 3|0 read : b c",
      "It looks as if 1.3 (line 12), applied at replica 0, deleted d instead of c: look at how a replica that applies a delete finds the element, and at whether the recorder "
-     "writes the name of the element that was really deleted.|If the editor sends positions, the position of 1.3 was perhaps not adjusted for the delete of a by 0.4 (line 8), which the author of 1.3 had not seen; or an insert arrived earlier whose author had not seen a delete, and replica 0 did not adjust it for that delete." + stop(13, "replica 0 applies 1.3")),
+     "writes the name of the element that was really deleted.|If the editor sends positions, the position of 1.3 was perhaps not adjusted for the delete of a by 0.4 (line 8), which the author of 1.3 had not seen. Or an earlier insert came to replica 0 at a wrong place: one whose author had not seen some delete, and which was not adjusted for it." + stop(13, "replica 0 applies 1.3")),
     ("a delete that takes what is deleted later", 2, "0 ins a 0 : a|0 ins b 1 : a b|1 recv 0 2|1 read : a b|1 del a : b|0 ins c 0 : c a b|0 recv 1 2|"
      "0 read : a b|0 del c : a b",
      "It looks as if 1.2 (line 7), applied at replica 0, deleted c instead of a: look at how a replica that applies a delete finds the element, and at whether the recorder "
@@ -1049,7 +1049,7 @@ def faults(tally: Tally, program: str, folder: str) -> None:
         got = explain(program, ["-"], trace)
         lines = got.err.decode().splitlines()
         own = run(program, ["verdict", "-"], trace).err.decode().rstrip("\n")
-        tally.check(f"fault: {fault}", own.endswith(f": {fault}") and lines[0] == own, lines)
+        tally.check(f"fault: {fault}", own.endswith(f": {fault}") and lines[:2] == [own, "  nothing was judged, since that is no trace (`finder` is the program's name in its own messages):"], lines)
         tally.check(f"fault: {fault}, {said}", said in [line.strip() for line in lines], lines)
         tally.check(f"fault: {fault}, status", got.status == 2 and not got.out, got)
     missing = f"{folder}/missing"
@@ -1760,7 +1760,7 @@ FIRST_TOLD = {
         "[l] was put directly behind n (0.1 (line 3)), and n and [o] were inserted at the front without knowing of each other. n is deleted at replica 0, which never showed n and [o] together: perhaps it still keeps n, but on the other side of [o] than replica 2 has it. Then "
         "[l], put rightly beside n, stands there too. So look first at where these concurrent inserts were put when they arrived: n in line 5 (replica 2), o in line 6 (replica 2) and o in line 10 (replica 0)."),
     "one replica alone in its order": ("positions", 3, "2 ins a 0 : a|2 ins b 0 : b a|1 ins c 0 : c|2 recv 1 1|2 read : b c a|0 recv 1 1|0 recv 2 1|0 read : a c|1 recv 2 1|1 read : a c",
-        "Replicas 0 and 1 show a before c. Replica 2 alone shows them the other way round, first in 2.3 (line 7): so look first at what it did in line 6, when 1.1 came. When 1.1 arrived, replica 2 had two changes of its own that the author of 1.1 did not know yet: the insert of a by 2.1 (line 3) and the insert of b by 2.2 (line 4). 1.1 must be adjusted for the first of these, what results for the second, and so on. At each of these steps, that change of the replica's own must be adjusted for 1.1 too: for 1.1 as it was before the step. Changes that still wait to be sent count too."),
+        "Replicas 0 and 1 show a before c. Replica 2 alone shows them the other way round, first in 2.3 (line 7): so look first at what it did in line 6, when 1.1 came. When 1.1 arrived, replica 2 had two changes of its own that the author of 1.1 did not know yet: the insert of a by 2.1 (line 3) and the insert of b by 2.2 (line 4). 1.1 and the first of these must be adjusted for each other; then what became of 1.1, and the second of these, for each other; and so on. Changes that still wait to be sent count too."),
     "one replica alone, with one change on its way": ("positions", 3, "2 ins a 0 : a|1 ins c 0 : c|2 recv 1 1|2 read : c a|0 recv 1 1|0 recv 2 1|0 read : a c|1 recv 2 1|1 read : a c",
         "Replicas 0 and 1 show a before c. Replica 2 alone shows them the other way round, first in 2.2 (line 6): so look first at what it did in line 5, when 1.1 came. When 1.1 arrived, replica 2 had one change of its own that the author of 1.1 did not know yet, the insert of a by 2.1 (line 3): this and 1.1 must each be adjusted for the other."),
     "an order that its author knew, with one change on its way": ("positions", 2, "0 ins a 0 : a|1 recv 0 1|1 read : a|1 ins c 1 : a c|0 ins b 0 : b a|1 recv 0 2|1 read : a b c",
@@ -1827,7 +1827,7 @@ def first_told(tally: Tally, program: str, folder: str) -> None:
     for kind, server in ("positions", ", and at what the server (if it adjusts positions) makes of that"), ("neighbours", ""):
         told = explain(program, ["--editor", kind, str(path)]).out.decode()
         tally.check(f"first told: {kind}: a delete that is wrong at two replicas", f"Replica 2 lacks b too, in 2.2 (line 13): so look first at what is sent{server}, and only then at replica 1. It looks as if" in told, told)
-    own = "When 0.2 arrived, replica 1 had two changes of its own that the author of 0.2 did not know yet: the insert of b by 1.2 (line 6) and the delete of a by 1.3 (line 7). 0.2 must be adjusted for the first of these, what results for the second, and so on. At each of these steps, that change of the replica's own must be adjusted for 0.2 too: for 0.2 as it was before the step."
+    own = "When 0.2 arrived, replica 1 had two changes of its own that the author of 0.2 did not know yet: the insert of b by 1.2 (line 6) and the delete of a by 1.3 (line 7). 0.2 and the first of these must be adjusted for each other; then what became of 0.2, and the second of these, for each other; and so on."
     twice = "0 ins a 0 : a|1 recv 0 1|1 read : a|1 ins b 1 : a b|1 del a : b|0 del a :|1 recv 0 2|1 read :"
     for name, entries, lacks in ("alone", "", False), ("and a third that has got its delete", "|2 recv 1 3|2 recv 0 2|2 read :", False), ("and a third that hasn't", "|2 recv 1 2|2 recv 0 2|2 read :", True):
         path.write_text(text_of(3, twice + entries))
@@ -2558,7 +2558,7 @@ def weak(tally: Tally, program: str, folder: str) -> None:
         b"When it showed", b"When strong came to fail").replace(b"Where to look\n", b"Where to look, should the strong one hold too\n"), b"")))
     later = explain(program, ["--weak", "-"], text_of(4, "1 ins x 0 : x|2 recv 1 1|3 recv 1 1|2 ins a 0 : a x|3 ins b 1 : x b|1 del x :|1 recv 2 1|1 recv 3 1|1 read : b a|0 recv 1 3|"
         "0 ins X 2 : b a X|2 recv 0 1|2 ins A 2 : b a A X|3 recv 0 1|3 ins B 3 : b a X B|0 del X : b a|0 recv 2 2|0 recv 3 2|0 read : b a B A").encode()).out.decode()
-    tally.check("weak: the first lines in which strong fails", later.startswith(f"weak holds, strong doesn't, with two warnings{ALONE[26:]}refused 3: ") and " It fails first in lines 1 to 11, of which the rest tells. The whole trace has " in later
+    tally.check("weak: the first lines in which strong fails", later.startswith(f"weak holds, strong doesn't, with two warnings{ALONE[26:]}refused 3: ") and " Lines 1 to 11 are enough for that, and all below is about these. The whole trace is `refused 3` too, by other responses." in later
                 and "start with it" not in later, later)
     tally.check("weak: not asked for", without.status == 1 and without.out.startswith(b"refused 3: "), without)
     got = explain(program, ["--weak", "-"], text_of(3, THREE_WAY).encode())

@@ -387,16 +387,16 @@ IN_COMMON = {
     "deleted twice": ([(5, BEGUN_TWICE)], [(2, RIGHT_TWICE), (10, RIGHT_ONCE)], [
         "  a delete arrived whose element was deleted there already: before all 5 wrong lists, and in 2 sessions that pass",
         "  a change arrived whose author had not seen one of the receiver's own changes: before all 5 wrong lists, and in 2 sessions that pass"]),
-    # Of 48 right lists 12 come so: one in each failing session, two in each of the four that pass.
+    # Of 48 correct lists 12 come so: one in each failing session, two in each of the four that pass.
     "at one place": ([(4, f"{TIED} b a")], [(4, f"{TIED} a b"), (4, IN_TURN)], [
-        "  an insert arrived at a place where an element stood that its author had not seen: right before all 4 wrong lists, and before 25 % of the right ones",
-        "  a change arrived whose author had not seen one of the receiver's own changes: right before all 4 wrong lists, and before 25 % of the right ones",
+        "  an insert arrived at a place where an element stood that its author had not seen: just before all 4 wrong lists, and just before 25 % of the correct ones",
+        "  a change arrived whose author had not seen one of the receiver's own changes: just before all 4 wrong lists, and just before 25 % of the correct ones",
         "  not needed: deletes (4 fail without)"]),
     "none that pass, and few lists": ([(3, BEGUN_ONCE)], [], []),
-    # Of 24 right lists 8 come so.
+    # Of 24 correct lists 8 come so.
     "none that pass": ([(8, f"{TIED} b a")], [], [
-        "  an insert arrived at a place where an element stood that its author had not seen: right before all 8 wrong lists, and before 33 % of the right ones",
-        "  a change arrived whose author had not seen one of the receiver's own changes: right before all 8 wrong lists, and before 33 % of the right ones",
+        "  an insert arrived at a place where an element stood that its author had not seen: just before all 8 wrong lists, and just before 33 % of the correct ones",
+        "  a change arrived whose author had not seen one of the receiver's own changes: just before all 8 wrong lists, and just before 33 % of the correct ones",
         "  not needed: deletes (8 fail without)"]),
     "too few": ([(2, BEGUN_TWICE)], [(10, RIGHT_ONCE)], []),
     "nothing stands out": ([(3, BEGUN_TWICE)], [(9, RIGHT_TWICE)], []),
@@ -404,7 +404,7 @@ IN_COMMON = {
 # By planted bug what the first line says, by what the bug is.
 OF_PLANTED = {
     "tombstone": "an insert arrived whose neighbour was deleted there", "tie": "an insert arrived at a place where an element stood that its author had not seen",
-    "clock": "a replica inserted right behind what another one had inserted", "overtaking": "several changes arrived at once",
+    "clock": "a replica inserted directly behind an element of another replica", "overtaking": "several changes arrived at once",
     "mapping": "an insert arrived whose author had not seen a delete that the receiver had", "unmoved": "a delete arrived whose author had not seen an insert that the receiver had",
     "behind": "an insert arrived at a place where an element stood that its author had not seen", "twice": "a delete arrived whose element was deleted there already",
     "none": "", "none_behind_server": "",
@@ -443,7 +443,7 @@ def what_is_common(tally: Tally, program: str, folder: str) -> None:
     for seed in range(100):
         Path(folder, "unmoved", f"{seed}.trace").write_text(planted.session("unmoved", seed).text())
     done = subprocess.run([TOOL, "--program", program, "--weak", "--failing", f"{folder}/unmoved"], capture_output=True, text=True)
-    shown = [line for line in page if line.startswith("What 83 failures") or ": right before 64" in line]
+    shown = [line for line in page if line.startswith("What 83 failures") or ": just before 64" in line]
     tally.check("in common: as the page shows it", len(shown) == 2 and done.stdout.endswith("\n\n" + "\n".join(line.partition("\n\n")[0] for line in shown) + "\n"), (shown, done))
     Path(folder, "twice", "0.trace").unlink()
     row = rows.Row(f"{folder}/twice/0.trace", "contents", None, 9, 0.0, 1, None, "", fails_at=9)
@@ -705,7 +705,7 @@ def fails_at(tally: Tally, program: str, folder: str) -> None:
     tally.check("fails at: another verdict first, by hand", first == {**dict.fromkeys("abcde"), "g": "contents 1.2", "h": "contents 0.2", "i": "position 1.2"}, first)
     lines = [cells(line) for line in judge(program, [f"{folder}/{name}.trace" for name in "abgh"]).out.decode().splitlines()]
     tally.check("fails at: the table has a column for it", [(Path(line[0]).stem, line[3], line[4]) for line in lines[:-1]] == [
-        ("file", "fails at", "first fault"), ("h", "4", "contents 0.2"), ("g", "4", "contents 1.2"), ("a", "6", "same"), ("b", "6", "same")], lines)
+        ("file", "fails at", "first fault"), ("h", "4", "contents 0.2"), ("g", "4", "contents 1.2"), ("a", "6", "contents 0.4"), ("b", "6", "doubled 0.2 1.1")], lines)
     for row in rows:
         lines = Path(row["file"]).read_bytes().splitlines(keepends=True)
         before, behind = (run(program, ["verdict", "-"], b"".join(lines[:count])).status for count in (row["fails_at"] - 1, row["fails_at"]))
@@ -2177,7 +2177,7 @@ def weak(tally: Tally, program: str, folder: str) -> None:
     told = usual.out.decode()
     tally.check("weak: not asked for", usual.status == 1 and "weak" not in told and not usual.err and told.endswith(
         "5 traces: 1 accepted, 3 refused, 1 contents\n") and [cells(line)[1:6] for line in told.splitlines()[1:5]] == [
-            ("refused", "3", "11", "same", "11"), ("contents", "-", "11", "refused 3", "14"), ("refused", "3", "11", "same", "17"), ("refused", "2", "11", "refused 3", "17")], usual)
+            ("refused", "3", "11", "refused 3", "11"), ("contents", "-", "11", "refused 3", "14"), ("refused", "3", "11", "refused 3", "17"), ("refused", "2", "11", "refused 3", "17")], usual)
     passing = [f"{folder}/{name}.trace" for name in ("alone", "right", "unequal")]
     got = judge(program, ["--weak", *passing])
     tally.check("weak: status 0 where none fails", got.status == 0 and b"\n3 traces: 1 accepted, 2 weak alone\n" in got.out, got)

@@ -72,7 +72,7 @@ NOT_SHOWN = "{element} does not stand in {before}{unknown}"
 SEVERAL_IDS = ": where it deletes several, each element has an id of its own, and these need not be consecutive"
 MOVED_DELETE = ("If the editor sends positions, the position of {delete} was perhaps not adjusted for {changes}, which the author of {delete} had "
                 "not seen{back}.{tie}")
-MOVED_BEFORE = "; or an insert arrived earlier whose author had not seen a delete, and replica {replica} did not adjust it for that delete"
+MOVED_BEFORE = ". Or an earlier insert came to replica {replica} at a wrong place: one whose author had not seen some delete, and which was not adjusted for it"
 UNKNOWN = ("No line inserts {names}. Perhaps the insert was not recorded, or under another name; or the document was not empty at first: then let one replica insert "
            "what was there, and the others receive it.")
 REPLACED = ("Replica {replica} showed {missing} in {before}; since then it only received {came}, and nothing that came deletes {missing}. Look at what {came_first} does there: "
@@ -94,7 +94,7 @@ OVERTAKEN = "Look at the order in which operations arrive: {name} was overtaken,
 LOST_OR_OVERTAKEN = ("Look first at whether {name} was lost on its way to replica {replica}: no receipt there names it. If it was not lost but overtaken, "
                      "look at the order in which operations arrive. ") + CAUSAL
 LOST_NEIGHBOUR = ("If inserts find their place by a neighbour, look at inserts beside deleted elements: when {element} arrived, its neighbour was "
-                  "already deleted there, as told above. An editor that throws deleted elements away too early finds no place for it, and loses it or "
+                  "already deleted there: {gone}. An editor that throws deleted elements away too early finds no place for it, and loses it or "
                   "holds it back for ever.")
 OWN_BACK_AGAIN = "When {came} came{line}, {back} came back, which replica {replica} had deleted itself by {delete}{lost}. Look at "
 BACK_AGAIN = "When {came} came{line}, {back} came back, which {was} deleted at replica {replica} before, by {delete}, and not shown in {before}{lost}. Look at "
@@ -605,6 +605,6 @@ def overtaken(evidence: Evidence) -> list:
 def lost_neighbour(evidence: Evidence) -> list:
     """Of an insert that the replica has shown nowhere since it came, and whose neighbour was deleted there, and not overtaken."""
     overtaken_ones = {change.element for change, _ in evidence.overtakings}
-    lost = [arrival.insert.element for arrival, deletes in evidence.lost_neighbours if arrival.insert.element in evidence.missing
+    lost = [(arrival.insert.element, deletes) for arrival, deletes in evidence.lost_neighbours if arrival.insert.element in evidence.missing
             and not evidence.was_shown_since(arrival) and not overtaken_ones.intersection(delete.element for delete in deletes)]
-    return [Cause("lost neighbour", LOST_NEIGHBOUR.format(element=lost[0]))] if lost else []
+    return [Cause("lost neighbour", LOST_NEIGHBOUR.format(element=element, gone=listed([f"{delete.element}, by {at(delete)}" for delete in deletes], MOST_TOLD))) for element, deletes in lost[:1]]

@@ -31,6 +31,8 @@ STATUSES = ("It ends with the program's status: 0 accepted, 1 any other verdict,
             "With --weak it ends with 0 too where strong fails and weak holds. It ends with 2 in the place of 0 where a trace has no entry, or TRACE"
             f"{SIDE} says that it is not what was saved, or lacks what a refused call says: not all was judged.")
 
+NOT_JUDGED = "nothing was judged, since that is no trace (`finder` is the program's name in its own messages):"
+
 
 def words_asked() -> argparse.Namespace:
     parser = Parser(prog=NAME, description=ABOUT, epilog=f"{WAYS} {STATUSES}")
@@ -107,7 +109,8 @@ def shown_lines(text: str) -> str:
 
 def say_fault(judged: Judged, trace: bytes, name: str) -> None:
     """The program's own line, and what it means."""
-    print("\n  ".join([shown_lines(judged.error), *about_fault(judged.error, trace, name)]), file=sys.stderr)
+    about = about_fault(judged.error, trace, name)
+    print("\n  ".join([shown_lines(judged.error), *([NOT_JUDGED] if about else []), *about]), file=sys.stderr)
 
 
 def write_small(path: str, evidence: Evidence, told: Evidence, program: str, known: Beside, apart: Apart) -> None:

@@ -31,9 +31,9 @@ IN_WORDS = {
     UNSEEN["del", "ins"]: "a delete arrived whose author had not seen an insert that the receiver had",
     UNSEEN["del", "del"]: "a delete arrived whose author had not seen a delete that the receiver had",
     OWN_BESIDE: "a replica inserted where an element had been deleted",
-    TYPED_ON: "a replica inserted right behind its own last insert",
-    BEFORE_OTHERS: "a replica inserted right before what another one had inserted",
-    BEHIND_OTHERS: "a replica inserted right behind what another one had inserted",
+    TYPED_ON: "a replica inserted directly behind its own last insert",
+    BEFORE_OTHERS: "a replica inserted directly before an element of another replica",
+    BEHIND_OTHERS: "a replica inserted directly behind an element of another replica",
     AT_FRONT: "a replica inserted at the front of its list",
     AT_END: "a replica inserted at the end of its list",
     FIRST_GONE: "a replica deleted the first element of its list",
@@ -209,7 +209,7 @@ def standing_out(failing: list, passing: list) -> list:
             found.append(Telling(weight(count / len(failing), others, len(passing)), name, count, False, f"and in {others or 'no'} session{'s that pass' if others > 1 else ' that passes'}"))
         count, others = sum(name in session.last for session in failing), sum(name in one for one in lists)
         if len(lists) >= FEWEST_LISTS and count >= MANY_LISTS * len(failing):
-            found.append(Telling(weight(count / len(failing), others, len(lists)), name, count, True, f"and before {round(100 * others / len(lists))} % of the right ones"))
+            found.append(Telling(weight(count / len(failing), others, len(lists)), name, count, True, f"and just before {round(100 * others / len(lists))} % of the correct ones"))
     least = max(TELLING, -log(BY_CHANCE) / len(failing))
     general = set().union(*GENERAL.values())
     told = []
@@ -236,7 +236,7 @@ def in_common(rows: list) -> list:
     passing, lines = sessions(right, False), []
     for one in standing_out(failing, passing):
         which = f"all {one.count}" if one.count == len(failing) else f"{one.count} of the {len(failing)}"
-        lines.append(f"  {IN_WORDS[one.name]}: {'right before' if one.is_right_before else 'before'} {which} wrong lists, {one.others}")
+        lines.append(f"  {IN_WORDS[one.name]}: {'just before' if one.is_right_before else 'before'} {which} wrong lists, {one.others}")
     without = unneeded(failing) if lines else []
     lines += [f"  not needed: {', '.join(without)}"] if without else []
     kinds = sorted({row.verdict for row in wrong})

@@ -24,6 +24,7 @@ from .programs import WAYS, WEAK_ALONE, NoProgram, check_is_domepeeler, find_pro
 from .recordings import FIRST_ENTRY
 from .rows import KINDS, NO_VERDICTS, Request, Row, failed
 from .warnings import SAVED, is_first
+from .words import verdict_of
 
 NAME = "domepeeler-judge-many"
 ABOUT = ("Judges all traces below some folders, several at a time, and lists them: first the one that fails in the fewest lines. Failures that look the same share a row, and `similar` counts the others. "
@@ -148,6 +149,11 @@ def together(rows: list) -> list:
     return [(same[0], len(same) - 1) for same in found.values()]
 
 
+def first_fault_of(row: Row) -> str:
+    """The verdict on the first lines that fail, of which that on the whole is mostly the same."""
+    return row.first_fault or (verdict_of(row.report).strip("`") if row.fails_at else "-")
+
+
 def print_table(rows: list, listed: list, is_weak: bool) -> None:
     """Those listed, if any, below a head, of such as look alike the first, and the counts of all; where the weak list specification alone is
     asked for, whether it holds."""
@@ -156,7 +162,7 @@ def print_table(rows: list, listed: list, is_weak: bool) -> None:
                ("k", [str(row.k or "-") for row, _ in rows_told])]
     columns += [("weak", [HOLDS[(row.report or {}).get("weak")] for row, _ in rows_told])] if is_weak else []
     columns += [("fails at", [str(row.fails_at or "-") for row, _ in rows_told])]
-    columns += [("first fault", [row.first_fault or ("same" if row.fails_at else "-") for row, _ in rows_told])] if any(row.first_fault for row, _ in rows_told) else []
+    columns += [("first fault", [first_fault_of(row) for row, _ in rows_told])] if any(row.first_fault for row, _ in rows_told) else []
     columns += [("lines", [str(row.lines) for row, _ in rows_told]), ("seconds", [f"{row.seconds:.3f}" for row, _ in rows_told])]
     for head, told in (("similar", [more for _, more in rows_told]), ("warnings", [len(row.warnings or []) for row, _ in rows_told])):
         columns += [(head, list(map(str, told)))] if any(told) else []
