@@ -487,8 +487,8 @@ WORDS = [
      "Where to look|"
      "Look at the recorder: each inserted element needs a name of its own, for ever. Two equal letters need two names. Each pasted "
      "element needs a new name; so does an element that comes back by undo, if it comes back as a new one.|"
-     "If that name is the editor's own id, the editor made it twice: look at what makes ids. Usual causes: a clock that goes back when a change arrives, or "
-     "at a restart; two replicas with the same number; an id made from what can come again, such as a position or the length of the list.||The list specifications|"
+     "If that name is the editor's own id, the editor made it twice: look at what makes ids. Usual causes: an id made from what can come again, such as a position or the "
+     "length of the list; a clock that goes back when a change arrives, or at a restart; two replicas with the same number.||The list specifications|"
      "neither the strong nor the weak one was judged, since two elements have one name"),
 ]
 
@@ -1044,12 +1044,15 @@ def paragraph(said: str, title: str) -> str:
     return said.partition(f"\n{title}\n")[2].partition("\n\n")[0]
 
 
+NOT_JUDGED = "domepeeler-explain: nothing was judged, since {} of the trace can't be read. The program's own words: "
+
+
 def faults(tally: Tally, program: str, folder: str) -> None:
     for trace, fault, said in FAULTS:
         got = explain(program, ["-"], trace)
         lines = got.err.decode().splitlines()
         own = run(program, ["verdict", "-"], trace).err.decode().rstrip("\n")
-        tally.check(f"fault: {fault}", own.endswith(f": {fault}") and lines[:2] == [own, "  nothing was judged, since that is no trace (`finder` is the program's name in its own messages):"], lines)
+        tally.check(f"fault: {fault}", own.endswith(f": {fault}") and lines[0] == NOT_JUDGED.format(fault.partition(":")[0]) + own, lines)
         tally.check(f"fault: {fault}, {said}", said in [line.strip() for line in lines], lines)
         tally.check(f"fault: {fault}, status", got.status == 2 and not got.out, got)
     missing = f"{folder}/missing"
@@ -1073,7 +1076,7 @@ def millions_of_names(tally: Tally, program: str, folder: str) -> None:
         got, seconds, megabytes = used([EXPLAIN, "--program", program, str(path)])
         own, shown, what, *_ = got.err.decode().splitlines()
         front, size = f"{begin} a a", len(begin) + 2 * NAMES + len(end)
-        tally.check(f"millions of names: {said}", got.status == 2 and not got.out and own == "finder: line 3: shape" and what == f"  {said}"
+        tally.check(f"millions of names: {said}", got.status == 2 and not got.out and own == NOT_JUDGED.format("line 3") + "finder: line 3: shape" and what == f"  {said}"
                     and shown.startswith(f"  line 3 is: {front[:40]}") and shown.endswith(f".. ({size} bytes)"), (own, shown[-100:], what))
         tally.check(f"millions of names: {said}, in little time and memory", seconds < MOST_SECONDS and megabytes < MOST_MEGABYTES,
                     (seconds, megabytes))
@@ -1760,7 +1763,7 @@ FIRST_TOLD = {
         "[l] was put directly behind n (0.1 (line 3)), and n and [o] were inserted at the front without knowing of each other. n is deleted at replica 0, which never showed n and [o] together: perhaps it still keeps n, but on the other side of [o] than replica 2 has it. Then "
         "[l], put rightly beside n, stands there too. So look first at where these concurrent inserts were put when they arrived: n in line 5 (replica 2), o in line 6 (replica 2) and o in line 10 (replica 0)."),
     "one replica alone in its order": ("positions", 3, "2 ins a 0 : a|2 ins b 0 : b a|1 ins c 0 : c|2 recv 1 1|2 read : b c a|0 recv 1 1|0 recv 2 1|0 read : a c|1 recv 2 1|1 read : a c",
-        "Replicas 0 and 1 show a before c. Replica 2 alone shows them the other way round, first in 2.3 (line 7): so look first at what it did in line 6, when 1.1 came. When 1.1 arrived, replica 2 had two changes of its own that the author of 1.1 did not know yet: the insert of a by 2.1 (line 3) and the insert of b by 2.2 (line 4). 1.1 and the first of these must be adjusted for each other; then what became of 1.1, and the second of these, for each other; and so on. Changes that still wait to be sent count too."),
+        "Replicas 0 and 1 show a before c. Replica 2 alone shows them the other way round, first in 2.3 (line 7): so look first at what it did in line 6, when 1.1 came. When 1.1 arrived, replica 2 had two changes of its own that the author of 1.1 did not know yet: the insert of a by 2.1 (line 3) and the insert of b by 2.2 (line 4). Adjust 1.1 and the first of these for each other. Then adjust the 1.1 that results, and the second of these, for each other; and so on. Changes that still wait to be sent count too."),
     "one replica alone, with one change on its way": ("positions", 3, "2 ins a 0 : a|1 ins c 0 : c|2 recv 1 1|2 read : c a|0 recv 1 1|0 recv 2 1|0 read : a c|1 recv 2 1|1 read : a c",
         "Replicas 0 and 1 show a before c. Replica 2 alone shows them the other way round, first in 2.2 (line 6): so look first at what it did in line 5, when 1.1 came. When 1.1 arrived, replica 2 had one change of its own that the author of 1.1 did not know yet, the insert of a by 2.1 (line 3): this and 1.1 must each be adjusted for the other."),
     "an order that its author knew, with one change on its way": ("positions", 2, "0 ins a 0 : a|1 recv 0 1|1 read : a|1 ins c 1 : a c|0 ins b 0 : b a|1 recv 0 2|1 read : a b c",
@@ -1827,7 +1830,7 @@ def first_told(tally: Tally, program: str, folder: str) -> None:
     for kind, server in ("positions", ", and at what the server (if it adjusts positions) makes of that"), ("neighbours", ""):
         told = explain(program, ["--editor", kind, str(path)]).out.decode()
         tally.check(f"first told: {kind}: a delete that is wrong at two replicas", f"Replica 2 lacks b too, in 2.2 (line 13): so look first at what is sent{server}, and only then at replica 1. It looks as if" in told, told)
-    own = "When 0.2 arrived, replica 1 had two changes of its own that the author of 0.2 did not know yet: the insert of b by 1.2 (line 6) and the delete of a by 1.3 (line 7). 0.2 and the first of these must be adjusted for each other; then what became of 0.2, and the second of these, for each other; and so on."
+    own = "When 0.2 arrived, replica 1 had two changes of its own that the author of 0.2 did not know yet: the insert of b by 1.2 (line 6) and the delete of a by 1.3 (line 7). Adjust 0.2 and the first of these for each other. Then adjust the 0.2 that results, and the second of these, for each other; and so on."
     twice = "0 ins a 0 : a|1 recv 0 1|1 read : a|1 ins b 1 : a b|1 del a : b|0 del a :|1 recv 0 2|1 read :"
     for name, entries, lacks in ("alone", "", False), ("and a third that has got its delete", "|2 recv 1 3|2 recv 0 2|2 read :", False), ("and a third that hasn't", "|2 recv 1 2|2 recv 0 2|2 read :", True):
         path.write_text(text_of(3, twice + entries))
@@ -2097,7 +2100,7 @@ def files(tally: Tally, program: str, folder: str) -> None:
     for text, said in NO_TRACES:
         got = explain(program, ["-"], text)
         lines = got.err.decode().splitlines()
-        tally.check(f"file {text[:9]}: {said}", got.status == 2 and lines[0].startswith("finder: line 1: ") and lines[1].strip() == said, got)
+        tally.check(f"file {text[:9]}: {said}", got.status == 2 and lines[0].startswith(NOT_JUDGED.format("line 1") + "finder: line 1: ") and lines[1].strip() == said, got)
     got = explain(program, ["-"], MENDED[0][1]).err.decode()
     tally.check("standard input: what mends it", "\n  this mends it: tr -d '\\r' < FILE > mended.trace\n" in got, got)
 
@@ -2174,7 +2177,7 @@ def contradicted(tally: Tally, folder: str) -> None:
     for status in 0, 1, 2:
         liar.write_text(f"#!/bin/sh\ncat > /dev/null\necho 'finder: line 3: shape' >&2\nexit {status}\n")
         got = explain(str(liar), ["-"], trace)
-        tally.check(f"no report, and status {status}", got.status == (status or 2) and not got.out and got.err.startswith(b"finder: line 3: shape\n"), got)
+        tally.check(f"no report, and status {status}", got.status == (status or 2) and not got.out and got.err.startswith(NOT_JUDGED.format("line 3").encode() + b"finder: line 3: shape\n"), got)
     for lie in {"verdict": "accepted"}, {"verdict": "accepted", "operations": 3, "order": ["a", "b"]}:
         liar.write_text(f"#!/bin/sh\ncat > /dev/null\necho '{json.dumps(lie)}'\n")
         told = f"domepeeler-explain: {liar} printed a report that is not on this trace: is it domepeeler?\n"
@@ -2547,6 +2550,19 @@ def together(tally: Tally, program: str, folder: str) -> None:
     got = explain(program, ["--small", f"{folder}/together.trace", "-"], trace.encode())
     wanted = text_of(4, "0 ins a 0 : a|1 ins b 0 : b|0 recv 1 1|0 read : a b|2 recv 0 1|2 recv 1 1|2 read : b a")
     tally.check("small: two by one receipt", Path(folder, "together.trace").read_text() == wanted, got)
+    reads = set()
+    for seed in range(12):
+        whole = planted.session("overtaking", seed, 16).text()
+        path = Path(folder, "read.trace")
+        got = explain(program, ["--small", str(path), "-"], whole.encode())
+        if got.status != 1:
+            continue
+        small, of_whole = (Recording(text) for text in (path.read_text(), whole))
+        named = re.findall(r"(\d+\.\d+) = (\d+\.\d+) \(line (\d+)(, a read in its place)?\)", got.out.decode())
+        reads |= {(small.operation(name).kind, bool(told)) for name, _, _, told in named}
+        tally.check(f"small: what became a read is told so: {seed}", named and all(
+            int(line) == of_whole.operation(other).line and bool(told) == (small.operation(name).kind != of_whole.operation(other).kind) for name, other, line, told in named), got)
+    tally.check("small: some became reads, and others not", {("read", True), ("ins", False)} <= reads, reads)
 
 
 def weak(tally: Tally, program: str, folder: str) -> None:
@@ -2558,7 +2574,7 @@ def weak(tally: Tally, program: str, folder: str) -> None:
         b"When it showed", b"When strong came to fail").replace(b"Where to look\n", b"Where to look, should the strong one hold too\n"), b"")))
     later = explain(program, ["--weak", "-"], text_of(4, "1 ins x 0 : x|2 recv 1 1|3 recv 1 1|2 ins a 0 : a x|3 ins b 1 : x b|1 del x :|1 recv 2 1|1 recv 3 1|1 read : b a|0 recv 1 3|"
         "0 ins X 2 : b a X|2 recv 0 1|2 ins A 2 : b a A X|3 recv 0 1|3 ins B 3 : b a X B|0 del X : b a|0 recv 2 2|0 recv 3 2|0 read : b a B A").encode()).out.decode()
-    tally.check("weak: the first lines in which strong fails", later.startswith(f"weak holds, strong doesn't, with two warnings{ALONE[26:]}refused 3: ") and " Lines 1 to 11 are enough for that, and all below is about these. The whole trace is `refused 3` too, by other responses." in later
+    tally.check("weak: the first lines in which strong fails", later.startswith(f"weak holds, strong doesn't, with two warnings{ALONE[26:]}refused 3: ") and " All below is about lines 1 to 11, in which the strong one fails first." in later
                 and "start with it" not in later, later)
     tally.check("weak: not asked for", without.status == 1 and without.out.startswith(b"refused 3: "), without)
     got = explain(program, ["--weak", "-"], text_of(3, THREE_WAY).encode())

@@ -705,7 +705,7 @@ def fails_at(tally: Tally, program: str, folder: str) -> None:
     tally.check("fails at: another verdict first, by hand", first == {**dict.fromkeys("abcde"), "g": "contents 1.2", "h": "contents 0.2", "i": "position 1.2"}, first)
     lines = [cells(line) for line in judge(program, [f"{folder}/{name}.trace" for name in "abgh"]).out.decode().splitlines()]
     tally.check("fails at: the table has a column for it", [(Path(line[0]).stem, line[3], line[4]) for line in lines[:-1]] == [
-        ("file", "fails at", "first fault"), ("h", "4", "contents 0.2"), ("g", "4", "contents 1.2"), ("a", "6", "contents 0.4"), ("b", "6", "doubled 0.2 1.1")], lines)
+        ("file", "fails at", "verdict there"), ("h", "4", "contents 0.2"), ("g", "4", "contents 1.2"), ("a", "6", "contents 0.4"), ("b", "6", "doubled 0.2 1.1")], lines)
     for row in rows:
         lines = Path(row["file"]).read_bytes().splitlines(keepends=True)
         before, behind = (run(program, ["verdict", "-"], b"".join(lines[:count])).status for count in (row["fails_at"] - 1, row["fails_at"]))

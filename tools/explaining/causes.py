@@ -11,8 +11,8 @@ from .kinds import fitting
 
 DOUBLED = ("Look at the recorder: each inserted element needs a name of its own, for ever. Two equal letters need two names. Each pasted "
            "element needs a new name; so does an element that comes back by undo, if it comes back as a new one.")
-SAME_ID = ("If that name is the editor's own id, the editor made it twice: look at what makes ids. Usual causes: a clock that goes back when a change arrives, "
-           "or at a restart; two replicas with the same number; an id made from what can come again, such as a position or the length of the list.")
+SAME_ID = ("If that name is the editor's own id, the editor made it twice: look at what makes ids. Usual causes: an id made from what can come again, such as a "
+           "position or the length of the list; a clock that goes back when a change arrives, or at a restart; two replicas with the same number.")
 
 
 def causes_of(evidence: Evidence, weak: bool = False) -> list:

@@ -13,7 +13,7 @@ from .commands import Once, Parser, add_version
 from .cycle_picture import drawing
 from .debuggers import LANGUAGES, USUAL
 from .evidence import Evidence, Unexplained
-from .faulty_lines import about_fault
+from .faulty_lines import CAUSE, about_fault
 from .files import MOST_BYTES, NO_SIDE, SIDE, SMALL_MARK, Side, Unread, name_beside, read_both, shown, trace_written_over, write_file, written_over
 from .kinds import ABOUT_KIND, HINT, KINDS, NoKind, hangs_on_kind, kind_asked
 from .page import page_of
@@ -31,7 +31,7 @@ STATUSES = ("It ends with the program's status: 0 accepted, 1 any other verdict,
             "With --weak it ends with 0 too where strong fails and weak holds. It ends with 2 in the place of 0 where a trace has no entry, or TRACE"
             f"{SIDE} says that it is not what was saved, or lacks what a refused call says: not all was judged.")
 
-NOT_JUDGED = "nothing was judged, since that is no trace (`finder` is the program's name in its own messages):"
+NOT_JUDGED = "nothing was judged, since line {line} of the trace can't be read. The program's own words:"
 
 
 def words_asked() -> argparse.Namespace:
@@ -108,9 +108,11 @@ def shown_lines(text: str) -> str:
 
 
 def say_fault(judged: Judged, trace: bytes, name: str) -> None:
-    """The program's own line, and what it means."""
+    """That nothing was judged, the program's own line, and what it means."""
     about = about_fault(judged.error, trace, name)
-    print("\n  ".join([shown_lines(judged.error), *([NOT_JUDGED] if about else []), *about]), file=sys.stderr)
+    found = CAUSE.search(judged.error)
+    told = f"{NAME}: {NOT_JUDGED.format(line=found[1])} " if about and found else ""
+    print("\n  ".join([told + shown_lines(judged.error), *about]), file=sys.stderr)
 
 
 def write_small(path: str, evidence: Evidence, told: Evidence, program: str, known: Beside, apart: Apart) -> None:
@@ -128,7 +130,8 @@ def write_small(path: str, evidence: Evidence, told: Evidence, program: str, kno
         write(path + SIDE, "".join(f"{line}\n" for line in [len(lines), SMALL_MARK.decode(), *known.marks(small.lines), *placed]))
     print(f"\n{shown(path)} {same_as(evidence, told)} in {len(lines)} lines instead of {len(evidence.recording.lines)}. It keeps only what the verdict needs. What causes the bug may be among "
           "what was left out: if you repeat these steps, your editor may answer differently. Each operation, and its name in the whole trace:")
-    named = [f"{name} = {operation.name} (line {operation.line})" for name, operation in small.operations]
+    made = Recording(small.text)
+    named = [f"{name} = {operation.name} (line {operation.line}{', a read in its place' if made.operation(name).kind != operation.kind else ''})" for name, operation in small.operations]
     print("  " + ", ".join(named[:MOST_TOLD]) + (f", and {len(named) - MOST_TOLD} more" if len(named) > MOST_TOLD else ""))
 
 

@@ -162,7 +162,7 @@ def print_table(rows: list, listed: list, is_weak: bool) -> None:
                ("k", [str(row.k or "-") for row, _ in rows_told])]
     columns += [("weak", [HOLDS[(row.report or {}).get("weak")] for row, _ in rows_told])] if is_weak else []
     columns += [("fails at", [str(row.fails_at or "-") for row, _ in rows_told])]
-    columns += [("first fault", [first_fault_of(row) for row, _ in rows_told])] if any(row.first_fault for row, _ in rows_told) else []
+    columns += [("verdict there", [first_fault_of(row) for row, _ in rows_told])] if any(row.first_fault for row, _ in rows_told) else []
     columns += [("lines", [str(row.lines) for row, _ in rows_told]), ("seconds", [f"{row.seconds:.3f}" for row, _ in rows_told])]
     for head, told in (("similar", [more for _, more in rows_told]), ("warnings", [len(row.warnings or []) for row, _ in rows_told])):
         columns += [(head, list(map(str, told)))] if any(told) else []

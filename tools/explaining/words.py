@@ -52,7 +52,7 @@ def explanation(evidence: Evidence, told: Evidence, language: str = debuggers.US
     if whole:
         more = "the same verdict, because of other responses" if is_alike else f"another verdict, {verdict_of(evidence.report)}, which is explained below"
         headline += f" This fault comes first, in lines 1 to {told.last_line}: start with it. The whole trace has {more}." if not passes else (
-            f" Lines 1 to {told.last_line} are enough for that, and all below is about these. The whole trace is {verdict_of(evidence.report)}{' too' if is_alike else ''}, by other responses.")
+            f" All below is about lines 1 to {told.last_line}, in which the strong one fails first{'' if is_alike else f'; the whole trace is {verdict_of(evidence.report)}'}.")
     if passes:
         headline = f"{WEAK_ALONE}: this passes, since only the weak list specification is asked for. Nothing needs mending. Why the strong one fails: {headline}"
     return Explanation(headline, [*when_it_went_wrong(evidence, told, weak), *without_receipts(told), *sections, *where,
