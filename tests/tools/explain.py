@@ -63,9 +63,9 @@ def stop(line: int, doing: str, *others: int, together: int = 0) -> str:
     doing += f"; if nothing is wrong there, stop at {arrivals[len(others) > 1]} ({before})" if others else ""
     asked = f"if recording.lines() == {line - 1}: breakpoint()"
     where = "right before the call that reads the list" if "reads the list" in doing else "right before the call that makes the editor apply a change, local or remote"
-    or_first = f" It stops at {together - 1} too: perhaps one call applies lines {together} to {line} together, and before such a call the count is {together - 1}." if together else ""
+    or_first = f", or {together - 1}, since one call may apply lines {together} to {line} together" if together else ""
     asked = f"if recording.lines() in ({together - 1}, {line - 1}): breakpoint()" if together else asked
-    where += f". It stops when {line - 1} lines have been recorded.{or_first}"
+    where += f". It stops when {line - 1} lines have been recorded{or_first}."
     return f"|In a debugger|stop before line {line} of the trace, where {doing}.|In Python, put the next line {where}|{asked}"
 
 
@@ -412,7 +412,7 @@ WORDS = [
     ("a delete that meets an insert and a delete which did not know each other", 2, "0 ins a 0 : a|0 ins b 1 : a b|0 ins c 2 : a b c|1 recv 0 3|"
      "1 read : a b c|0 del a : b c|1 ins d 3 : a b c d|0 recv 1 2|0 read : b c d|1 del c : a b d|0 recv 1 3|0 read : b c",
      "It looks as if 1.3 (line 12), applied at replica 0, deleted d instead of c: look at how a replica that applies a delete finds the element, and at whether the recorder "
-     "writes the name of the element that was really deleted.|If the editor sends positions, the position of 1.3 was perhaps not adjusted for the delete of a by 0.4 (line 8), which the author of 1.3 had not seen. Or an earlier insert came to replica 0 at a wrong place: one whose author had not seen some delete, and which was not adjusted for it." + stop(13, "replica 0 applies 1.3")),
+     "writes the name of the element that was really deleted.|If the editor sends positions, the position of 1.3 was perhaps not adjusted for the delete of a by 0.4 (line 8), which the author of 1.3 had not seen. Or perhaps d was put at a wrong place before that, when 1.2 came to replica 0 in line 10: its author had not seen the delete of a by 0.4 (line 8)." + stop(13, "replica 0 applies 1.3")),
     ("a delete that takes what is deleted later", 2, "0 ins a 0 : a|0 ins b 1 : a b|1 recv 0 2|1 read : a b|1 del a : b|0 ins c 0 : c a b|0 recv 1 2|"
      "0 read : a b|0 del c : a b",
      "It looks as if 1.2 (line 7), applied at replica 0, deleted c instead of a: look at how a replica that applies a delete finds the element, and at whether the recorder "
@@ -1044,7 +1044,7 @@ def paragraph(said: str, title: str) -> str:
     return said.partition(f"\n{title}\n")[2].partition("\n\n")[0]
 
 
-NOT_JUDGED = "domepeeler-explain: nothing was judged, since {} of the trace can't be read. The program's own words: "
+NOT_JUDGED = "domepeeler-explain: nothing was judged, since {} of the trace can't be read. `domepeeler` says of it: "
 
 
 def faults(tally: Tally, program: str, folder: str) -> None:
@@ -1212,7 +1212,7 @@ def places(tally: Tally, program: str, folder: str) -> None:
     for name, wanted in FOR_TWO.items():
         got = explain(program, ["--language", name, "-"], text_of(2, "0 ins a 0 : a|0 ins b 1 : a b|1 recv 0 1|1 recv 0 2|1 read : a").encode()).out.decode()
         tally.check(f"a debugger: {name}, receipts that stand together", paragraph(got, "In a debugger").endswith(
-            f". It stops when 5 lines have been recorded. It stops at 4 too: perhaps one call applies lines 5 to 6 together, and before such a call the count is 4.\n    {wanted}"), got)
+            f". It stops when 5 lines have been recorded, or 4, since one call may apply lines 5 to 6 together.\n    {wanted}"), got)
     undelivered(tally, program, folder)
     path.write_text(text_of(2, PLACED))
     for beside, wanted in NOTES:
@@ -1758,7 +1758,7 @@ FIRST_TOLD = {
         "Replica 0 showed its own changes in 0.2 (line 4), and shows them no more: the insert of a by 0.1 (line 3) and the insert of b by 0.2 (line 4). Since then it received the insert of c by 1.2 "
         "(line 7). Was the replica's list replaced by a state from elsewhere"),
     "a place from before what came": ("neighbours", 2, "0 ins a 0 : a|0 ins b 1 : a b|0 ins c 2 : a b c|0 ins d 3 : a b c d|1 recv 0 4|1 del a : b c d|0 recv 1 1|0 ins e 2 : b e c d",
-        "[e] stands at the place that was position 2 in 0.4 (line 6). Since then replica 0 received the delete of a by 1.1 (line 8). Does the editor still use something from before that (a place, an offset, an index, a copy of the list)? Then every kind of change that arrives must update it."),
+        "[e] stands where position 2 was before some changes came, in 0.4 (line 6). Since then replica 0 received the delete of a by 1.1 (line 8). Does the editor still use something from before these came (a place, an offset, an index, a copy of the list)? Every kind of change that arrives must update it."),
     "an order that a delete hides": ("neighbours", 3, "0 ins n 0 : n|1 ins o 0 : o|2 recv 0 1|2 recv 1 1|2 read : n o|2 ins l 1 : n l o|0 del n :|0 recv 1 1|0 read : o|0 recv 2 2|0 read : o l",
         "[l] was put directly behind n (0.1 (line 3)), and n and [o] were inserted at the front without knowing of each other. n is deleted at replica 0, which never showed n and [o] together: perhaps it still keeps n, but on the other side of [o] than replica 2 has it. Then "
         "[l], put rightly beside n, stands there too. So look first at where these concurrent inserts were put when they arrived: n in line 5 (replica 2), o in line 6 (replica 2) and o in line 10 (replica 0)."),
@@ -2558,7 +2558,7 @@ def together(tally: Tally, program: str, folder: str) -> None:
         if got.status != 1:
             continue
         small, of_whole = (Recording(text) for text in (path.read_text(), whole))
-        named = re.findall(r"(\d+\.\d+) = (\d+\.\d+) \(line (\d+)(, a read in its place)?\)", got.out.decode())
+        named = re.findall(r"(\d+\.\d+) here, (\d+\.\d+) there \(line (\d+)(, a read in its place)?\)", got.out.decode())
         reads |= {(small.operation(name).kind, bool(told)) for name, _, _, told in named}
         tally.check(f"small: what became a read is told so: {seed}", named and all(
             int(line) == of_whole.operation(other).line and bool(told) == (small.operation(name).kind != of_whole.operation(other).kind) for name, other, line, told in named), got)
@@ -2574,7 +2574,7 @@ def weak(tally: Tally, program: str, folder: str) -> None:
         b"When it showed", b"When strong came to fail").replace(b"Where to look\n", b"Where to look, should the strong one hold too\n"), b"")))
     later = explain(program, ["--weak", "-"], text_of(4, "1 ins x 0 : x|2 recv 1 1|3 recv 1 1|2 ins a 0 : a x|3 ins b 1 : x b|1 del x :|1 recv 2 1|1 recv 3 1|1 read : b a|0 recv 1 3|"
         "0 ins X 2 : b a X|2 recv 0 1|2 ins A 2 : b a A X|3 recv 0 1|3 ins B 3 : b a X B|0 del X : b a|0 recv 2 2|0 recv 3 2|0 read : b a B A").encode()).out.decode()
-    tally.check("weak: the first lines in which strong fails", later.startswith(f"weak holds, strong doesn't, with two warnings{ALONE[26:]}refused 3: ") and " All below is about lines 1 to 11, in which the strong one fails first." in later
+    tally.check("weak: the first lines in which strong fails", later.startswith(f"weak holds, strong doesn't, with two warnings{ALONE[26:]}refused 3: ") and " All below is about lines 1 to 11, the fewest first lines in which it fails." in later
                 and "start with it" not in later, later)
     tally.check("weak: not asked for", without.status == 1 and without.out.startswith(b"refused 3: "), without)
     got = explain(program, ["--weak", "-"], text_of(3, THREE_WAY).encode())

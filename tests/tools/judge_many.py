@@ -391,13 +391,13 @@ IN_COMMON = {
     "at one place": ([(4, f"{TIED} b a")], [(4, f"{TIED} a b"), (4, IN_TURN)], [
         "  an insert arrived at a place where an element stood that its author had not seen: just before all 4 wrong lists, and just before 25 % of the correct ones",
         "  a change arrived whose author had not seen one of the receiver's own changes: just before all 4 wrong lists, and just before 25 % of the correct ones",
-        "  not needed: deletes (4 fail without)"]),
+        "  They fail also without deletes (4 of the 4 do), so the bug does not need these."]),
     "none that pass, and few lists": ([(3, BEGUN_ONCE)], [], []),
     # Of 24 correct lists 8 come so.
     "none that pass": ([(8, f"{TIED} b a")], [], [
         "  an insert arrived at a place where an element stood that its author had not seen: just before all 8 wrong lists, and just before 33 % of the correct ones",
         "  a change arrived whose author had not seen one of the receiver's own changes: just before all 8 wrong lists, and just before 33 % of the correct ones",
-        "  not needed: deletes (8 fail without)"]),
+        "  They fail also without deletes (8 of the 8 do), so the bug does not need these."]),
     "too few": ([(2, BEGUN_TWICE)], [(10, RIGHT_ONCE)], []),
     "nothing stands out": ([(3, BEGUN_TWICE)], [(9, RIGHT_TWICE)], []),
 }
@@ -436,7 +436,7 @@ def what_is_common(tally: Tally, program: str, folder: str) -> None:
         done = subprocess.run([TOOL, "--program", program, "--failing", *weak, str(place)], capture_output=True, text=True)
         first = done.stdout.partition(", the most telling first:\n  ")[2].partition("\n")[0]
         tally.check(f"in common: planted: {bug}", first.startswith(f"{wanted}: ") if wanted else done.returncode == 0 and "in common" not in done.stdout, done)
-        without = {words for words in ("deletes", "concurrent changes") if re.search(rf"\n  not needed: (.*, )?{words} \(\d+ fail without\)", done.stdout)}
+        without = {words for words in ("deletes", "concurrent changes") if re.search(rf"\n  They fail also (.* and )?without {words} \(\d+ of the \d+ do\)", done.stdout)}
         needless = {"clock": {"deletes", "concurrent changes"}, "tie": {"deletes"}, "behind": {"deletes"}}  # the others need both
         tally.check(f"in common: planted: {bug}: what it does not need", without == needless.get(bug, set()), done)
     page = (ROOT / "docs" / "many.md").read_text().split("\n    ")
@@ -517,7 +517,7 @@ def situations(tally: Tally, program: str, folder: str) -> None:
             ("too few lists", [seen_session({one}, {one})] * 6 + [lacks] * 4, [seen_session(others=[set()] * 2)] * 5, [])):
         found = [(telling.name, telling.count, telling.is_right_before) for telling in in_common.standing_out(failing, passing)]
         tally.check(f"standing out: {name}", found == wanted, found)
-    for without, of, told in (1, 5, []), (2, 20, ["deletes (2 fail without)"]), (2, 21, []), (5, 5, ["deletes (5 fail without)"]):
+    for without, of, told in (1, 5, []), (2, 20, ["without deletes (2 of the 20 do)"]), (2, 21, []), (5, 5, ["without deletes (5 of the 5 do)"]):
         found = in_common.unneeded([seen_session(has_delete=False)] * without + [lacks] * (of - without))
         tally.check(f"not needed: {without} of {of}", found == told, found)
     write(folder, {"twice.trace": BEGUN_TWICE, "once.trace": BEGUN_ONCE, "right.trace": f"{BEGUN_ONCE} b"})

@@ -72,7 +72,7 @@ NOT_SHOWN = "{element} does not stand in {before}{unknown}"
 SEVERAL_IDS = ": where it deletes several, each element has an id of its own, and these need not be consecutive"
 MOVED_DELETE = ("If the editor sends positions, the position of {delete} was perhaps not adjusted for {changes}, which the author of {delete} had "
                 "not seen{back}.{tie}")
-MOVED_BEFORE = ". Or an earlier insert came to replica {replica} at a wrong place: one whose author had not seen some delete, and which was not adjusted for it"
+MOVED_BEFORE = ". Or perhaps {element} was put at a wrong place before that, when {insert} came to replica {replica} in line {line}: its author had not seen the delete of {other} by {delete}"
 UNKNOWN = ("No line inserts {names}. Perhaps the insert was not recorded, or under another name; or the document was not empty at first: then let one replica insert "
            "what was there, and the others receive it.")
 REPLACED = ("Replica {replica} showed {missing} in {before}; since then it only received {came}, and nothing that came deletes {missing}. Look at what {came_first} does there: "
@@ -360,7 +360,8 @@ def moved_delete(evidence: Evidence, delete: Operation) -> list:
     tied = [Cause("concurrent", TIED.format(one=delete.element, two=other, before=at(orders[0]), after=at(orders[1])))
             for other in others[:MOST_TOLD] if all(orders := shown_in_orders(evidence, delete.element, other, other in evidence.missing))]
     others = [other for other in sorted(others, key=lambda other: other not in evidence.missing) if not tied and not is_agreed(evidence, delete.element, other, {delete.replica, receipt.replica})]
-    back = MOVED_BEFORE.format(replica=receipt.replica) if met_before(evidence.recording, delete, receipt) else ""
+    before = met_before(evidence.recording, delete, receipt)
+    back = MOVED_BEFORE.format(replica=receipt.replica, element=before[0].element, insert=before[0].name, line=before[1].line, other=before[2].element, delete=at(before[2])) if before else ""
     return [*tied[:1], Cause("positions", MOVED_DELETE.format(delete=delete.name, changes=named(unknown), back=back, tie=at_once(delete.element, others) if others else ""))]
 
 
@@ -603,8 +604,8 @@ def overtaken(evidence: Evidence) -> list:
 
 
 def lost_neighbour(evidence: Evidence) -> list:
-    """Of an insert that the replica has shown nowhere since it came, and whose neighbour was deleted there, and not overtaken."""
+    """Of an insert that the replica has shown nowhere since it came, and whose neighbour was deleted there, where neither was overtaken."""
     overtaken_ones = {change.element for change, _ in evidence.overtakings}
     lost = [(arrival.insert.element, deletes) for arrival, deletes in evidence.lost_neighbours if arrival.insert.element in evidence.missing
-            and not evidence.was_shown_since(arrival) and not overtaken_ones.intersection(delete.element for delete in deletes)]
+            and not evidence.was_shown_since(arrival) and not overtaken_ones.intersection([arrival.insert.element, *(delete.element for delete in deletes)])]
     return [Cause("lost neighbour", LOST_NEIGHBOUR.format(element=element, gone=listed([f"{delete.element}, by {at(delete)}" for delete in deletes], MOST_TOLD))) for element, deletes in lost[:1]]

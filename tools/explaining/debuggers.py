@@ -136,11 +136,11 @@ def statement(recording: Recording, entry: Operation | Receipt, language: str) -
     name, words = LANGUAGES[language]
     is_read = isinstance(entry, Operation) and entry.kind in ("read", "view")
     first = first_together(recording, entry)
-    then, asked = f"It stops when {entry.line - 1} lines have been recorded.", words.format(entry.line - 1)
+    then, asked = f"It stops when {entry.line - 1} lines have been recorded", words.format(entry.line - 1)
     if first < entry.line:
-        then += f" It stops at {first - 1} too: perhaps one call applies lines {first} to {entry.line} together, and before such a call the count is {first - 1}."
+        then += f", or {first - 1}, since one call may apply lines {first} to {entry.line} together"
         asked = FOR_TWO[language].format(first - 1, entry.line - 1)
-    return [f"In {name}, put the next line {READS if is_read else BEGINS}. {then}", f"  {asked}"]
+    return [f"In {name}, put the next line {READS if is_read else BEGINS}. {then}.", f"  {asked}"]
 
 
 def first_together(recording: Recording, entry: Operation | Receipt) -> int:

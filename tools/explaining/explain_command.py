@@ -31,7 +31,7 @@ STATUSES = ("It ends with the program's status: 0 accepted, 1 any other verdict,
             "With --weak it ends with 0 too where strong fails and weak holds. It ends with 2 in the place of 0 where a trace has no entry, or TRACE"
             f"{SIDE} says that it is not what was saved, or lacks what a refused call says: not all was judged.")
 
-NOT_JUDGED = "nothing was judged, since line {line} of the trace can't be read. The program's own words:"
+NOT_JUDGED = "nothing was judged, since line {line} of the trace can't be read. `domepeeler` says of it:"
 
 
 def words_asked() -> argparse.Namespace:
@@ -129,10 +129,10 @@ def write_small(path: str, evidence: Evidence, told: Evidence, program: str, kno
     if os.path.isfile(path):  # a pipe or a device has no file beside it
         write(path + SIDE, "".join(f"{line}\n" for line in [len(lines), SMALL_MARK.decode(), *known.marks(small.lines), *placed]))
     print(f"\n{shown(path)} {same_as(evidence, told)} in {len(lines)} lines instead of {len(evidence.recording.lines)}. It keeps only what the verdict needs. What causes the bug may be among "
-          "what was left out: if you repeat these steps, your editor may answer differently. Each operation, and its name in the whole trace:")
+          "what was left out: if you repeat these steps, your editor may answer differently. Each of its operations, and which one of the whole trace that is:")
     made = Recording(small.text)
-    named = [f"{name} = {operation.name} (line {operation.line}{', a read in its place' if made.operation(name).kind != operation.kind else ''})" for name, operation in small.operations]
-    print("  " + ", ".join(named[:MOST_TOLD]) + (f", and {len(named) - MOST_TOLD} more" if len(named) > MOST_TOLD else ""))
+    named = [f"{name} here, {operation.name} there (line {operation.line}{', a read in its place' if made.operation(name).kind != operation.kind else ''})" for name, operation in small.operations]
+    print("  " + "; ".join(named[:MOST_TOLD]) + (f"; and {len(named) - MOST_TOLD} more" if len(named) > MOST_TOLD else ""))
 
 
 def same_as(evidence: Evidence, told: Evidence) -> str:

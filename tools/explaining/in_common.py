@@ -223,7 +223,7 @@ def unneeded(failing: list) -> list:
     """What a failure does not need, with how many fail without it."""
     without = {"deletes": sum(not session.has_delete for session in failing),
                "concurrent changes": sum(not session.is_concurrent for session in failing)}
-    return [f"{what} ({count} fail without)" for what, count in without.items() if count >= max(UNNEEDED_FROM * len(failing), 2)]
+    return [f"without {what} ({count} of the {len(failing)} do)" for what, count in without.items() if count >= max(UNNEEDED_FROM * len(failing), 2)]
 
 
 def in_common(rows: list) -> list:
@@ -238,7 +238,7 @@ def in_common(rows: list) -> list:
         which = f"all {one.count}" if one.count == len(failing) else f"{one.count} of the {len(failing)}"
         lines.append(f"  {IN_WORDS[one.name]}: {'just before' if one.is_right_before else 'before'} {which} wrong lists, {one.others}")
     without = unneeded(failing) if lines else []
-    lines += [f"  not needed: {', '.join(without)}"] if without else []
+    lines += [f"  They fail also {joined(without)}, so the bug does not need these."] if without else []
     kinds = sorted({row.verdict for row in wrong})
     several = f" Their verdicts are not the same ({joined(kinds)}), so there may be more than one bug." if kinds[1:] else ""
     beside = f", compared with {counted(passing, right, 'session')} that pass{'' if right[1:] else 'es'}" if passing else ""

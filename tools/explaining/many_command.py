@@ -149,6 +149,9 @@ def together(rows: list) -> list:
     return [(same[0], len(same) - 1) for same in found.values()]
 
 
+VERDICT_THERE = "; `verdict there`: on the lines up to `fails at`"
+
+
 def first_fault_of(row: Row) -> str:
     """The verdict on the first lines that fail, of which that on the whole is mostly the same."""
     return row.first_fault or (verdict_of(row.report).strip("`") if row.fails_at else "-")
@@ -178,7 +181,8 @@ def print_table(rows: list, listed: list, is_weak: bool) -> None:
     told = ", ".join(f"{counts[kind]} {kind}" for kind in [*KINDS[:1], "weak alone", *KINDS[1:]] if counts[kind])
     left = sum(more for _, more in rows_told)
     unlisted = f"; {left} more look{'s' if left == 1 else ''} the same as a listed one (`similar`)" if left else ""
-    print(f"{len(rows)} trace{'' if len(rows) == 1 else 's'}: {told}{unlisted}")
+    is_other = any(row.first_fault for row, _ in rows_told)
+    print(f"{len(rows)} trace{'' if len(rows) == 1 else 's'}: {told}{unlisted}{VERDICT_THERE if is_other else ''}")
 
 
 def object_of(row: Row) -> dict:

@@ -1,12 +1,12 @@
 """What an editor that sends positions has to do where a change arrives: it moves the change over those that its author had not seen."""
 from __future__ import annotations
 
-from bisect import bisect_right
 from itertools import takewhile
 
 from .evidence import Arrival
 from .recordings import Operation, Receipt, Recording
 
+MOST_BEFORE = 50  # of earlier inserts, which may have come to a wrong place, the last ones that are looked at
 
 def met(recording: Recording, change: Operation, receipt: Receipt) -> list:
     """The changes that the receipt's replica had before it and that the change's author had not seen: those of elements that stood before
@@ -34,19 +34,18 @@ def met_inserts(recording: Recording, delete: Operation, arrival: Arrival) -> li
             if had[insert.replica] >= insert.n and not delete.has_seen(insert) and not insert.has_seen(delete) and insert is not arrival.insert]
 
 
-def met_before(recording: Recording, delete: Operation, receipt: Receipt) -> bool:
-    """Whether the receipt's replica had an insert before it, and another delete, where these did not know of each other."""
+def met_before(recording: Recording, delete: Operation, receipt: Receipt) -> tuple | None:
+    """Of the last inserts that came to the receipt's replica before it, one whose author had not seen a delete, other than this one, that was there by then; the receipt that
+    brought it, and that delete."""
     had = recording.clock_before(receipt)
-    inserts = [[one for one in stream[:count] if one.kind == "ins"] for stream, count in zip(recording.streams, had)]
-    numbers = [[insert.n for insert in stream] for stream in inserts]
-    for other in recording.changes():
-        if other.kind == "ins" or other is delete or had[other.replica] < other.n:
-            continue
-        for stream, ns, seen in zip(inserts, numbers, other.clock):
-            unseen = stream[bisect_right(ns, seen):][:1]  # it has seen the least of those that come later
-            if unseen and not unseen[0].has_seen(other):
-                return True
-    return False
+    there = [change for change in recording.changes() if change.n <= had[change.replica] and change is not delete]
+    deletes = [(change if change.replica == receipt.replica else recording.arrival(change, receipt.replica), change) for change in there if change.kind == "del"]
+    for insert in [change for change in there if change.kind == "ins" and change.replica != receipt.replica][:-MOST_BEFORE - 1:-1]:
+        arrival = recording.arrival(insert, receipt.replica)
+        other = next((other for came, other in deletes if came.line < arrival.line and not insert.has_seen(other)), None)
+        if other is not None:
+            return insert, arrival, other
+    return None
 
 
 def elements_before(recording: Recording, change: Operation, receipt: Receipt) -> set:

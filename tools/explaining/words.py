@@ -44,7 +44,7 @@ def explanation(evidence: Evidence, told: Evidence, language: str = debuggers.US
     causes = causes_of(told, weak)
     alone = [cause for cause in causes if cause.name == ALONE and not weak and is_weak_alone(evidence.report)]
     others = [*(cause for cause in causes if cause.name != ALONE), *of_whole(evidence, told)]
-    in_order = [*alone, *others] if evidence.kind == POSITIONS else [*others, *alone]
+    in_order = [*alone, *others] if evidence.kind in ("", POSITIONS) else [*others, *alone]
     passes = weak and is_weak_alone(evidence.report)
     where = [Section(WHERE_OF_STRONG if passes else WHERE, [cause.told for cause in in_order])] if causes else []
     whole = whole_trace(evidence, told)
@@ -52,7 +52,7 @@ def explanation(evidence: Evidence, told: Evidence, language: str = debuggers.US
     if whole:
         more = "the same verdict, because of other responses" if is_alike else f"another verdict, {verdict_of(evidence.report)}, which is explained below"
         headline += f" This fault comes first, in lines 1 to {told.last_line}: start with it. The whole trace has {more}." if not passes else (
-            f" All below is about lines 1 to {told.last_line}, in which the strong one fails first{'' if is_alike else f'; the whole trace is {verdict_of(evidence.report)}'}.")
+            f" All below is about lines 1 to {told.last_line}, the fewest first lines in which it fails{'' if is_alike else f'; the whole trace is {verdict_of(evidence.report)}'}.")
     if passes:
         headline = f"{WEAK_ALONE}: this passes, since only the weak list specification is asked for. Nothing needs mending. Why the strong one fails: {headline}"
     return Explanation(headline, [*when_it_went_wrong(evidence, told, weak), *without_receipts(told), *sections, *where,
@@ -473,8 +473,10 @@ def list_before(evidence: Evidence, operation: Operation) -> list:
     shown = next((one for one in reversed(evidence.recording.streams[operation.replica][:operation.n - 1]) if one.kind != "view"), None)
     if shown is None:
         return []
-    came = [receipt.seen.name for receipt in evidence.recording.receipts[operation.replica] if shown.n <= receipt.before < operation.n]
-    told = f", and then it received {listed(came, MOST_ARRIVED)}" if came else ""
+    seen = [receipt.seen for receipt in evidence.recording.receipts[operation.replica] if shown.n <= receipt.before < operation.n]
+    what = {"ins": "inserts {}", "del": "deletes {}"}
+    came = [one.name + (f", which {what[one.kind].format(one.element)}" if one.kind in what else "") for one in seen]
+    told = f"; then it received {listed(came, MOST_ARRIVED)}" if came else ""
     return [f"before: {marked(shown.response, {operation.element, *evidence.elements})}, answered by {at(shown)}{told}"]
 
 
