@@ -985,7 +985,7 @@ A letter stands first, as `2-0' would look like an operation's name."
      :entries entries
      :of-nothing (cl-loop for (name . named) in (nreverse deletes)
                           unless (gethash name inserted)
-                          collect (format "%s deleted %s, which no line inserts, so no response shows whether it was deleted: is %s %s"
+                          collect (format "%s deleted %s, which no line inserts, so nothing was there to delete: is %s %s"
                                           named name name "the right name, and was its insert recorded?"))
      :past-end (nreverse past-end))))
 

@@ -1542,8 +1542,8 @@ static inline void domepeeler_say_of_nothing(const struct domepeeler_warned *w) 
         const struct domepeeler_event *one = &w->deletes[i];
         if (bsearch(&one->name, w->inserted, w->inserts, sizeof *w->inserted, domepeeler_compare)) continue;
         if (count++ < DOMEPEELER_TOLD)
-            domepeeler_say(w->said, "line %zu, %d.%u: replica %d deleted %.*s, which no line inserts, so no response shows whether it was "
-                                    "deleted: is %.*s the right name, and was its insert recorded?\n", one->line, one->author, one->n,
+            domepeeler_say(w->said, "line %zu, %d.%u: replica %d deleted %.*s, which no line inserts, so nothing was there to "
+                                    "delete: is %.*s the right name, and was its insert recorded?\n", one->line, one->author, one->n,
                            one->author, (int)one->name.length, one->name.at, (int)one->name.length, one->name.at);
     }
     domepeeler_say_more(w->said, count, "delete", "of elements that no line inserts");

@@ -951,8 +951,8 @@ function hidden(lines) {
           `a list of length ${names.length - 1}, so it counts as the end: is position ${words[3]} right?`)
       }
     } else if (kind === "del") {
-      deletes.push([words[2], `line ${line}, ${replica}.${n}: replica ${replica} deleted ${words[2]}, which no line inserts, so no ` +
-        `response shows whether it was deleted: is ${words[2]} the right name, and was its insert recorded?`])
+      deletes.push([words[2], `line ${line}, ${replica}.${n}: replica ${replica} deleted ${words[2]}, which no line inserts, so nothing ` +
+        `was there to delete: is ${words[2]} the right name, and was its insert recorded?`])
     }
   })
   const ofNothing = deletes.filter(([name]) => !inserted.has(name)).map(([, said]) => said)

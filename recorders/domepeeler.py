@@ -967,8 +967,8 @@ def _hidden(lines: List[str]) -> List[str]:
                 past_end.append(f"line {line}, {replica}.{n}: replica {replica} inserted {words[2]} at position {words[3]}, past the end of "
                                 f"a list of length {before}, so it counts as the end: is position {words[3]} right?")
         elif kind == "del":
-            deletes.append((words[2], f"line {line}, {replica}.{n}: replica {replica} deleted {words[2]}, which no line inserts, so no "
-                                      f"response shows whether it was deleted: is {words[2]} the right name, and was its insert recorded?"))
+            deletes.append((words[2], f"line {line}, {replica}.{n}: replica {replica} deleted {words[2]}, which no line inserts, so nothing "
+                                      f"was there to delete: is {words[2]} the right name, and was its insert recorded?"))
     of_nothing = [told for name, told in deletes if name not in inserted]
     silent = [f"replica {replica} has {'receipts, but no operation' if one.receipts else 'no entry'}: nothing that it showed is judged"
               for replica, one in enumerate(ends) if not one.pasts]

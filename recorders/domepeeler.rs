@@ -1358,7 +1358,7 @@ impl<'a> Warned<'a> {
         }
         for (name, named) in deletes.into_iter().filter(|(name, _)| !inserted.contains(name)) {
             warned.of_nothing.push(format!(
-                "{named} deleted {name}, which no line inserts, so no response shows whether it was deleted: \
+                "{named} deleted {name}, which no line inserts, so nothing was there to delete: \
                  is {name} the right name, and was its insert recorded?"
             ));
         }

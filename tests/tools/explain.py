@@ -156,11 +156,12 @@ WORDS = [
      "x: inserted by 0.1 (line 3), deleted by 0.2 (line 8)|at 0.3 (line 11), x was deleted already, by 0.2 (line 8)|"
      "a was put before x. When it arrived at replica 0 in line 9, x was already deleted there by 0.2 (line 8)|"
      "b was put behind x. When it arrived at replica 0 in line 10, x was already deleted there by 0.2 (line 8)|"
-     "x arrived at replica 1 in line 4, x at replica 2 in line 5, a at replica 0 in line 9, b at replica 0 in line 10|"
+     "x arrived at replica 1 in line 4, x at replica 2 in line 5, a at replica 0 in line 9, b at replica 0 in line 10||"
+     "Where to look|"
+     "An editor whose server orders all changes, as Jupiter's does, promises only the weak list specification, which holds here. If yours is such an editor, nothing is wrong here: ask for the weak specification alone (in the tools by --weak).|"
      "Look at positions beside deleted elements: any two of 2.1, 0.3 and 1.1 fit together, but not all three; perhaps an insert lost its place "
      "because its neighbour was deleted meanwhile. Look first at where replica 0 placed b in line 10: it belongs beside x, which had been deleted there.|"
-     "If the list is sorted by position identifiers, look at those of x, b and a: are two of them equal, does one differ between replicas, are numbers compared as text, or is one of them not between the identifiers of its neighbours?|"
-     "An editor whose server orders all changes, as Jupiter's does, promises only the weak list specification, which holds here. If yours is such an editor, nothing is wrong here: ask for the weak specification alone (in the tools by --weak)."
+     "If the list is sorted by position identifiers, look at those of x, b and a: are two of them equal, does one differ between replicas, are numbers compared as text, or is one of them not between the identifiers of its neighbours?"
      + stop(10, "replica 0 applies 2.1", 9, 5, 4, together=9)),
     ("an insert that arrives beside a deleted element", 2, BESIDE_DELETED,
      "[d] before [c]: line 9 of the trace, 0.3: replica 0 inserted d at position 1, answered b [d] [c]|"
@@ -646,7 +647,7 @@ OF_OTHERS = {"positions": {"identifiers", "between", "behind unknown", "numbers"
 # By planted bug by which changes are lost: how many seeds, how many sessions fail at least, and of how many of these the words name one.
 LOST_MESSAGES = {"lost": (150, 60, 1.0), "dropped": (150, 80, 0.97)}
 
-NO_INSERT = ", which no line inserts, so no response shows whether it was deleted: is {} the right name, and was its insert recorded?"
+NO_INSERT = ", which no line inserts, so nothing was there to delete: is {} the right name, and was its insert recorded?"
 UNHEARD = ("no receipt brings it an insert or a delete from there, so nothing shows how it applies these. At the end of a session let "
            "everyone receive everything, and then read the list")
 IT, THEY = "Unless it was still on its way, it was lost or is held back", "Unless they were still on their way, they were lost or are held back"

@@ -1574,7 +1574,7 @@ NEVER_HEARS = ("replica {} never hears of {}: no receipt brings it an insert or 
                "At the end of a session let everyone receive everything, and then read the list")
 LOST_ONE = "Unless it was still on its way, it was lost or is held back"
 LOST_SOME = "Unless they were still on their way, they were lost or are held back"
-OF_NOTHING = ("line {0}, 0.{1}: replica 0 deleted {2}, which no line inserts, so no response shows whether it was deleted: is {2} the "
+OF_NOTHING = ("line {0}, 0.{1}: replica 0 deleted {2}, which no line inserts, so nothing was there to delete: is {2} the "
               "right name, and was its insert recorded?")
 PAST_END = "line {0}, 0.{1}: replica 0 inserted {2} at position {3}, past the end of a list of length {4}, so it counts as the end: is position {3} right?"
 

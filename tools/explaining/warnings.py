@@ -112,7 +112,7 @@ def hidden(trace: bytes) -> tuple:
                                 f"{words[3].decode()}, past the end of a list of length {before}, so it counts as the end: is position {words[3].decode()} right?")
         elif kind == b"del":
             deletes.append((words[2], f"line {line}, {replica}.{n}: replica {replica} deleted {words[2].decode()}, which no line inserts, "
-                            f"so no response shows whether it was deleted: is {words[2].decode()} the right name, and was its insert recorded?"))
+                            f"so nothing was there to delete: is {words[2].decode()} the right name, and was its insert recorded?"))
     of_nothing = [told for name, told in deletes if name not in inserted]
     others = [*some(of_nothing, "delete", "of elements that no line inserts"), *some(past_end, "insert", "past the end of a list")]
     ends, silent = [*different(replicas), *unheard(replicas), *unshown(replicas)], without_operation(replicas)
