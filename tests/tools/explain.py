@@ -285,7 +285,7 @@ WORDS = [
     ("an element of one's own lost, whose delete has not arrived", 2, "0 ins a 0 : a|1 recv 0 1|1 del a :|0 read :|0 recv 1 1",
      "contents 0.2: this response lacks one element that replica 0 should have had by then.|"
      "answered: (nothing)|it should hold, in any order: [a]|"
-     "before it: replica 0's 0.1 (line 3) answered [a], which is right; since then it received nothing|"
+     "before it: replica 0's 0.1 (line 3) answered [a], which holds what it should; since then it received nothing|"
      "[a] inserted by 0.1 (line 3), an earlier operation of replica 0|"
      "[a] deleted by 1.1 (line 5), which replica 0 got only in line 7 (0 recv 1 1), after this response" + stop(6, "replica 0 reads the list")),
     ("a deleted element shown", 2, "0 ins a 0 : a|0 del a :|1 recv 0 2|1 read : a",
@@ -326,13 +326,13 @@ WORDS = [
     ("a deleted element in a view", 1, "0 ins a 0 : a|0 ins b 1 : a b|0 del a : b|0 view : a",
      "contents 0.4: this view has one element that should not be there.|"
      "line 6 of the trace, 0.4: replica 0 showed a part of the list|answered: [a]|it may hold any part of what replica 0 had by then: b|"
-     "before it: replica 0's 0.3 (line 5) answered b, which is right; since then it received nothing|Extra|"
+     "before it: replica 0's 0.3 (line 5) answered b, which holds what it should; since then it received nothing|Extra|"
      "[a] inserted by 0.1 (line 3), an earlier operation of replica 0|[a] deleted by 0.3 (line 5), an earlier operation of replica 0"),
     ("a name twice in a view", 1, "0 ins a 0 : a|0 view : a a", "answered: [a] [a]|it may hold any part of what replica 0 had by then: a|"
      "Named more than once|[a] inserted by 0.1 (line 3), an earlier operation of replica 0"),
     ("a read after a view", 1, "0 ins a 0 : a|0 view :|0 read :",
      "contents 0.3: this response lacks one element that replica 0 should have had by then.|"
-     "answered: (nothing)|it should hold, in any order: [a]|before it: replica 0's 0.2 (line 4) answered (nothing), which is right; since then it received nothing|Missing"),
+     "answered: (nothing)|it should hold, in any order: [a]|before it: replica 0's 0.2 (line 4) answered (nothing), which holds what it should; since then it received nothing|Missing"),
     ("a view against an insert", 2, "0 ins a 0 : a|0 ins b 1 : a b|0 ins c 2 : a b c|1 recv 0 3|1 view : c a",
      "refused 2: two responses can't be right together.|"
      "[a] before [c]: line 5 of the trace, 0.3: replica 0 inserted c at position 2, answered [a] b [c]|"
@@ -365,7 +365,7 @@ WORDS = [
     ("a second delete of one element takes its neighbour", 2, "0 ins a 0 : a|0 ins b 1 : a b|1 recv 0 2|1 read : a b|0 del a : b|1 del a : b|"
      "1 recv 0 3|1 read :",
      "contents 1.3: this response lacks one element that replica 1 should have had by then.|answered: (nothing)|"
-     "it should hold, in any order: [b]|before it: replica 1's 1.2 (line 8) answered [b], which is right; since then it received 0.3 (line 9)|"
+     "it should hold, in any order: [b]|before it: replica 1's 1.2 (line 8) answered [b], which holds what it should; since then it received 0.3 (line 9)|"
      "Missing|[b] inserted by 0.2 (line 4), which arrived at replica 1 in line 5 (1 recv 0 2)|"
      "[b] was put behind a. When it arrived at replica 1 in line 5, a was still there|[b] is never deleted||"
      "Where to look|"
@@ -1045,7 +1045,8 @@ def paragraph(said: str, title: str) -> str:
     return said.partition(f"\n{title}\n")[2].partition("\n\n")[0]
 
 
-NOT_JUDGED = "domepeeler-explain: nothing was judged, since {} of the trace can't be read. `domepeeler` says of it: "
+NOT_JUDGED = "domepeeler-explain: nothing was judged, since {} of the trace can't be read"
+OWN_MESSAGE = "  the program's own message: "
 
 
 def faults(tally: Tally, program: str, folder: str) -> None:
@@ -1053,7 +1054,7 @@ def faults(tally: Tally, program: str, folder: str) -> None:
         got = explain(program, ["-"], trace)
         lines = got.err.decode().splitlines()
         own = run(program, ["verdict", "-"], trace).err.decode().rstrip("\n")
-        tally.check(f"fault: {fault}", own.endswith(f": {fault}") and lines[0] == NOT_JUDGED.format(fault.partition(":")[0]) + own, lines)
+        tally.check(f"fault: {fault}", own.endswith(f": {fault}") and lines[0] == NOT_JUDGED.format(fault.partition(":")[0]) and lines[-1] == OWN_MESSAGE + own, lines)
         tally.check(f"fault: {fault}, {said}", said in [line.strip() for line in lines], lines)
         tally.check(f"fault: {fault}, status", got.status == 2 and not got.out, got)
     missing = f"{folder}/missing"
@@ -1077,7 +1078,7 @@ def millions_of_names(tally: Tally, program: str, folder: str) -> None:
         got, seconds, megabytes = used([EXPLAIN, "--program", program, str(path)])
         own, shown, what, *_ = got.err.decode().splitlines()
         front, size = f"{begin} a a", len(begin) + 2 * NAMES + len(end)
-        tally.check(f"millions of names: {said}", got.status == 2 and not got.out and own == NOT_JUDGED.format("line 3") + "finder: line 3: shape" and what == f"  {said}"
+        tally.check(f"millions of names: {said}", got.status == 2 and not got.out and own == NOT_JUDGED.format("line 3") and got.err.endswith(f"\n{OWN_MESSAGE}finder: line 3: shape\n".encode()) and what == f"  {said}"
                     and shown.startswith(f"  line 3 is: {front[:40]}") and shown.endswith(f".. ({size} bytes)"), (own, shown[-100:], what))
         tally.check(f"millions of names: {said}, in little time and memory", seconds < MOST_SECONDS and megabytes < MOST_MEGABYTES,
                     (seconds, megabytes))
@@ -1759,7 +1760,7 @@ FIRST_TOLD = {
         "Replica 0 showed its own changes in 0.2 (line 4), and shows them no more: the insert of a by 0.1 (line 3) and the insert of b by 0.2 (line 4). Since then it received the insert of c by 1.2 "
         "(line 7). Was the replica's list replaced by a state from elsewhere"),
     "a place from before what came": ("neighbours", 2, "0 ins a 0 : a|0 ins b 1 : a b|0 ins c 2 : a b c|0 ins d 3 : a b c d|1 recv 0 4|1 del a : b c d|0 recv 1 1|0 ins e 2 : b e c d",
-        "[e] stands where position 2 was before some changes came, in 0.4 (line 6). Since then replica 0 received the delete of a by 1.1 (line 8). Does the editor still use something from before these came (a place, an offset, an index, a copy of the list)? Every kind of change that arrives must update it."),
+        "[e] stands where position 2 was in 0.4 (line 6). After that came the delete of a by 1.1 (in line 9). Does the editor still use something from before that (a place, an offset, an index, a copy of the list)? Every kind of change that arrives must update it."),
     "an order that a delete hides": ("neighbours", 3, "0 ins n 0 : n|1 ins o 0 : o|2 recv 0 1|2 recv 1 1|2 read : n o|2 ins l 1 : n l o|0 del n :|0 recv 1 1|0 read : o|0 recv 2 2|0 read : o l",
         "[l] was put directly behind n (0.1 (line 3)), and n and [o] were inserted at the front without knowing of each other. n is deleted at replica 0, which never showed n and [o] together: perhaps it still keeps n, but on the other side of [o] than replica 2 has it. Then "
         "[l], put rightly beside n, stands there too. So look first at where these concurrent inserts were put when they arrived: n in line 5 (replica 2), o in line 6 (replica 2) and o in line 10 (replica 0)."),
@@ -2092,7 +2093,7 @@ def files(tally: Tally, program: str, folder: str) -> None:
         Path(folder, name).write_bytes(text)
         got = subprocess.run([EXPLAIN, "--program", program, name], cwd=folder, capture_output=True, text=True)
         own, *lines = [line.strip() for line in got.stderr.splitlines()]
-        tally.check(f"file {name}: the causes first", got.returncode == 2 and own.startswith("finder: ") and lines[:len(causes)] == causes, got)
+        tally.check(f"file {name}: the causes first", got.returncode == 2 and own.startswith("domepeeler-explain: nothing was judged, ") and lines[:len(causes)] == causes, got)
         said, _, command = "\n".join(lines[len(causes):len(causes) + 1]).partition(": ")
         mended = Path(folder, "mended.trace")
         mended.write_bytes(b"")
@@ -2101,7 +2102,7 @@ def files(tally: Tally, program: str, folder: str) -> None:
     for text, said in NO_TRACES:
         got = explain(program, ["-"], text)
         lines = got.err.decode().splitlines()
-        tally.check(f"file {text[:9]}: {said}", got.status == 2 and lines[0].startswith(NOT_JUDGED.format("line 1") + "finder: line 1: ") and lines[1].strip() == said, got)
+        tally.check(f"file {text[:9]}: {said}", got.status == 2 and lines[0] == NOT_JUDGED.format("line 1") and lines[-1].startswith(f"{OWN_MESSAGE}finder: line 1: ") and lines[1].strip() == said, got)
     got = explain(program, ["-"], MENDED[0][1]).err.decode()
     tally.check("standard input: what mends it", "\n  this mends it: tr -d '\\r' < FILE > mended.trace\n" in got, got)
 
@@ -2178,7 +2179,7 @@ def contradicted(tally: Tally, folder: str) -> None:
     for status in 0, 1, 2:
         liar.write_text(f"#!/bin/sh\ncat > /dev/null\necho 'finder: line 3: shape' >&2\nexit {status}\n")
         got = explain(str(liar), ["-"], trace)
-        tally.check(f"no report, and status {status}", got.status == (status or 2) and not got.out and got.err.startswith(NOT_JUDGED.format("line 3").encode() + b"finder: line 3: shape\n"), got)
+        tally.check(f"no report, and status {status}", got.status == (status or 2) and not got.out and got.err.startswith(NOT_JUDGED.format("line 3").encode() + b"\n") and got.err.endswith(f"\n{OWN_MESSAGE}finder: line 3: shape\n".encode()), got)
     for lie in {"verdict": "accepted"}, {"verdict": "accepted", "operations": 3, "order": ["a", "b"]}:
         liar.write_text(f"#!/bin/sh\ncat > /dev/null\necho '{json.dumps(lie)}'\n")
         told = f"domepeeler-explain: {liar} printed a report that is not on this trace: is it domepeeler?\n"
@@ -2559,7 +2560,7 @@ def together(tally: Tally, program: str, folder: str) -> None:
         if got.status != 1:
             continue
         small, of_whole = (Recording(text) for text in (path.read_text(), whole))
-        named = re.findall(r"(\d+\.\d+) here, (\d+\.\d+) there \(line (\d+)(, a read in its place)?\)", got.out.decode())
+        named = re.findall(r"(\d+\.\d+) here, (\d+\.\d+) there \(line (\d+)(; here only a read)?\)", got.out.decode())
         reads |= {(small.operation(name).kind, bool(told)) for name, _, _, told in named}
         tally.check(f"small: what became a read is told so: {seed}", named and all(
             int(line) == of_whole.operation(other).line and bool(told) == (small.operation(name).kind != of_whole.operation(other).kind) for name, other, line, told in named), got)
@@ -2575,7 +2576,7 @@ def weak(tally: Tally, program: str, folder: str) -> None:
         b"When it showed", b"When strong came to fail").replace(b"Where to look\n", b"Where to look, should the strong one hold too\n"), b"")))
     later = explain(program, ["--weak", "-"], text_of(4, "1 ins x 0 : x|2 recv 1 1|3 recv 1 1|2 ins a 0 : a x|3 ins b 1 : x b|1 del x :|1 recv 2 1|1 recv 3 1|1 read : b a|0 recv 1 3|"
         "0 ins X 2 : b a X|2 recv 0 1|2 ins A 2 : b a A X|3 recv 0 1|3 ins B 3 : b a X B|0 del X : b a|0 recv 2 2|0 recv 3 2|0 read : b a B A").encode()).out.decode()
-    tally.check("weak: the first lines in which strong fails", later.startswith(f"weak holds, strong doesn't, with two warnings{ALONE[26:]}refused 3: ") and " All below is about lines 1 to 11, the fewest first lines in which it fails." in later
+    tally.check("weak: the first lines in which strong fails", later.startswith(f"weak holds, strong doesn't, with two warnings{ALONE[26:]}refused 3: ") and " Up to line 10 it holds; all below is about lines 1 to 11." in later
                 and "start with it" not in later, later)
     tally.check("weak: not asked for", without.status == 1 and without.out.startswith(b"refused 3: "), without)
     got = explain(program, ["--weak", "-"], text_of(3, THREE_WAY).encode())

@@ -220,7 +220,7 @@ def junit(tally: Tally, program: str, folder: str, other: str) -> None:
                 [(case[0].tag, case[0].get("type")) for case in (first, second)] == [("error", "unread")] * 2, (got, counts))
     tally.check("JUnit: the line of an error", first[0].get("message").endswith(": line 3: shape"), first[0].attrib)
     said = run(str(ROOT / "tools" / "explain"), ["--program", program, "-"], b"trace 1\nreplicas 1\n0 reads :\n").err.decode()
-    tally.check("JUnit: the explanation of an error", "`reads`, the second word, is not" in said and f"{first[0].text}\n" == said,
+    tally.check("JUnit: the explanation of an error", "`reads`, the second word, is not" in said and first[0].text.splitlines() == ["finder: line 3: shape", *said.splitlines()[1:-1]],
                 (first[0].text, said))
     names = [case.get("name") for case in (first, second)]
     tally.check("JUnit: names that XML can't hold", names == ["a\\x01 <&\u00e9.trace", "b\\xff.trace"], names)
@@ -391,13 +391,13 @@ IN_COMMON = {
     "at one place": ([(4, f"{TIED} b a")], [(4, f"{TIED} a b"), (4, IN_TURN)], [
         "  an insert arrived at a place where an element stood that its author had not seen: just before all 4 wrong lists, and just before 25 % of the correct ones",
         "  a change arrived whose author had not seen one of the receiver's own changes: just before all 4 wrong lists, and just before 25 % of the correct ones",
-        "  They fail also without deletes (4 of the 4 do), so the bug does not need these."]),
+        "  Up to where they fail, 4 of the 4 have no deletes: so the bug does not need these."]),
     "none that pass, and few lists": ([(3, BEGUN_ONCE)], [], []),
     # Of 24 correct lists 8 come so.
     "none that pass": ([(8, f"{TIED} b a")], [], [
         "  an insert arrived at a place where an element stood that its author had not seen: just before all 8 wrong lists, and just before 33 % of the correct ones",
         "  a change arrived whose author had not seen one of the receiver's own changes: just before all 8 wrong lists, and just before 33 % of the correct ones",
-        "  They fail also without deletes (8 of the 8 do), so the bug does not need these."]),
+        "  Up to where they fail, 8 of the 8 have no deletes: so the bug does not need these."]),
     "too few": ([(2, BEGUN_TWICE)], [(10, RIGHT_ONCE)], []),
     "nothing stands out": ([(3, BEGUN_TWICE)], [(9, RIGHT_TWICE)], []),
 }
@@ -419,6 +419,7 @@ def what_is_common(tally: Tally, program: str, folder: str) -> None:
                       for of in range(count)})
         counts = [sum(count for count, _ in sessions) for sessions in (wrong, right)]
         beside = f", compared with {counts[1]} sessions that pass" if right else ""
+        told = [*told, f"  To see why one fails: domepeeler-explain {place}/wrong0-0.trace"] if told else []
         head = f"What {counts[0]} failures have in common{beside}. Look at what your editor does in these situations, the most telling first:"
         for words in [], ["--failing"]:
             done = subprocess.run([TOOL, "--program", program, *words, place], capture_output=True, text=True)
@@ -436,7 +437,7 @@ def what_is_common(tally: Tally, program: str, folder: str) -> None:
         done = subprocess.run([TOOL, "--program", program, "--failing", *weak, str(place)], capture_output=True, text=True)
         first = done.stdout.partition(", the most telling first:\n  ")[2].partition("\n")[0]
         tally.check(f"in common: planted: {bug}", first.startswith(f"{wanted}: ") if wanted else done.returncode == 0 and "in common" not in done.stdout, done)
-        without = {words for words in ("deletes", "concurrent changes") if re.search(rf"\n  They fail also (.* and )?without {words} \(\d+ of the \d+ do\)", done.stdout)}
+        without = {words for words in ("deletes", "concurrent changes") if re.search(rf"\n  Up to where they fail, (.* and )?\d+ of the \d+ have no {words}\b", done.stdout)}
         needless = {"clock": {"deletes", "concurrent changes"}, "tie": {"deletes"}, "behind": {"deletes"}}  # the others need both
         tally.check(f"in common: planted: {bug}: what it does not need", without == needless.get(bug, set()), done)
     page = (ROOT / "docs" / "many.md").read_text().split("\n    ")
@@ -444,7 +445,7 @@ def what_is_common(tally: Tally, program: str, folder: str) -> None:
         Path(folder, "unmoved", f"{seed}.trace").write_text(planted.session("unmoved", seed).text())
     done = subprocess.run([TOOL, "--program", program, "--weak", "--failing", f"{folder}/unmoved"], capture_output=True, text=True)
     shown = [line for line in page if line.startswith("What 83 failures") or ": just before 64" in line]
-    tally.check("in common: as the page shows it", len(shown) == 2 and done.stdout.endswith("\n\n" + "\n".join(line.partition("\n\n")[0] for line in shown) + "\n"), (shown, done))
+    tally.check("in common: as the page shows it", len(shown) == 2 and done.stdout.rpartition("\n  To see why one fails: ")[0].endswith("\n\n" + "\n".join(line.partition("\n\n")[0] for line in shown)), (shown, done))
     Path(folder, "twice", "0.trace").unlink()
     row = rows.Row(f"{folder}/twice/0.trace", "contents", None, 9, 0.0, 1, None, "", fails_at=9)
     tally.check("in common: of traces that are gone, or are others by now", in_common.in_common([row] * 9 + [row._replace(file=f"{folder}/twice/1.trace", lines=3)] * 9) == [])
@@ -517,7 +518,7 @@ def situations(tally: Tally, program: str, folder: str) -> None:
             ("too few lists", [seen_session({one}, {one})] * 6 + [lacks] * 4, [seen_session(others=[set()] * 2)] * 5, [])):
         found = [(telling.name, telling.count, telling.is_right_before) for telling in in_common.standing_out(failing, passing)]
         tally.check(f"standing out: {name}", found == wanted, found)
-    for without, of, told in (1, 5, []), (2, 20, ["without deletes (2 of the 20 do)"]), (2, 21, []), (5, 5, ["without deletes (5 of the 5 do)"]):
+    for without, of, told in (1, 5, []), (2, 20, ["2 of the 20 have no deletes"]), (2, 21, []), (5, 5, ["5 of the 5 have no deletes"]):
         found = in_common.unneeded([seen_session(has_delete=False)] * without + [lacks] * (of - without))
         tally.check(f"not needed: {without} of {of}", found == told, found)
     write(folder, {"twice.trace": BEGUN_TWICE, "once.trace": BEGUN_ONCE, "right.trace": f"{BEGUN_ONCE} b"})
@@ -683,6 +684,9 @@ def here_and_elsewhere(tally: Tally, program: str, folder: str, other: str, want
         tally.check(f"{machines}: all traces stay here, and none there", sorted(map(str, Path(folder).rglob("*"))) == before and not left, left)
 
 
+VERDICT_THERE = "`verdict` is of the whole trace, and `verdict there` of the lines up to `fails at`: begin with that"
+
+
 def fails_at(tally: Tally, program: str, folder: str) -> None:
     """How many of the first lines fail already, by the program's word on each beginning; the least of these first, and of equals the
     smaller trace."""
@@ -704,7 +708,7 @@ def fails_at(tally: Tally, program: str, folder: str) -> None:
     first = {Path(row["file"]).stem: row.get("first_fault") for row in rows if Path(row["file"]).stem.isalpha()}
     tally.check("fails at: another verdict first, by hand", first == {**dict.fromkeys("abcde"), "g": "contents 1.2", "h": "contents 0.2", "i": "position 1.2"}, first)
     lines = [cells(line) for line in judge(program, [f"{folder}/{name}.trace" for name in "abgh"]).out.decode().splitlines()]
-    tally.check("fails at: the table has a column for it", [(Path(line[0]).stem, line[3], line[4]) for line in lines[:-1]] == [
+    tally.check("fails at: the table has a column for it", [(Path(line[0]).stem, line[3], line[4]) for line in lines[:-2]] == [
         ("file", "fails at", "verdict there"), ("h", "4", "contents 0.2"), ("g", "4", "contents 1.2"), ("a", "6", "contents 0.4"), ("b", "6", "doubled 0.2 1.1")], lines)
     for row in rows:
         lines = Path(row["file"]).read_bytes().splitlines(keepends=True)
@@ -2176,7 +2180,7 @@ def weak(tally: Tally, program: str, folder: str) -> None:
     usual = judge(program, [folder])
     told = usual.out.decode()
     tally.check("weak: not asked for", usual.status == 1 and "weak" not in told and not usual.err and told.endswith(
-        "5 traces: 1 accepted, 3 refused, 1 contents\n") and [cells(line)[1:6] for line in told.splitlines()[1:5]] == [
+        f"5 traces: 1 accepted, 3 refused, 1 contents\n{VERDICT_THERE}\n") and [cells(line)[1:6] for line in told.splitlines()[1:5]] == [
             ("refused", "3", "11", "refused 3", "11"), ("contents", "-", "11", "refused 3", "14"), ("refused", "3", "11", "refused 3", "17"), ("refused", "2", "11", "refused 3", "17")], usual)
     passing = [f"{folder}/{name}.trace" for name in ("alone", "right", "unequal")]
     got = judge(program, ["--weak", *passing])

@@ -40,8 +40,8 @@ NUMBERS_TREE = ("Look at where a new child is put: {element} stands behind {pass
                 "{causes}ids are compared as text).")
 KEPT_PLACE = ("{came} came to replica {replica} in line {line}, beside {own}, which the replica had inserted earlier, by {insert}. Does the editor keep a position, or a range, from its last "
               "insert? Then a change that arrives must update it.")
-STALE = ("[{element}] stands where position {at} was before some changes came, in {before}. Since then replica {replica} received {came}. Does the editor still use something from before these came (a "
-         "place, an offset, an index, a copy of the list)? Every kind of change that arrives must update it.")
+STALE = ("[{element}] stands where position {at} was in {before}. After that came {came}. Does the editor still use something from before that (a place, an offset, an index, a copy of the "
+         "list)? Every kind of change that arrives must update it.")
 CLOCK = {True: "the clock does not advance with each insert; ", False: "the clock does not advance when changes arrive, or when one that was held back is applied; the replica's number is compared before the clock; "}
 BESIDE_DELETED = ("If inserts find their place by a neighbour, look at inserts beside deleted elements: {which}. If replicas throw "
                   "deleted elements away, nothing says then where the insert belongs; if they keep them, the search for its place must treat them like "
@@ -180,7 +180,8 @@ def stale_place(evidence: Evidence) -> list:
         return []
     before, came = evidence.stale_place
     operation = evidence.operations[0]
-    return [Cause("stale place", STALE.format(element=operation.element, at=operation.at, before=at(before), replica=operation.replica, came=named(came)))]
+    news = [f"the {'insert' if change.kind == 'ins' else 'delete'} of {change.element} by {change.name} (in line {evidence.line_at(change, operation.replica)})" for change in came]
+    return [Cause("stale place", STALE.format(element=operation.element, at=operation.at, before=at(before), came=listed(news, MOST_MET)))]
 
 
 def beside_gone(evidence: Evidence, passed: str) -> list:

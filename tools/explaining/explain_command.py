@@ -31,7 +31,8 @@ STATUSES = ("It ends with the program's status: 0 accepted, 1 any other verdict,
             "With --weak it ends with 0 too where strong fails and weak holds. It ends with 2 in the place of 0 where a trace has no entry, or TRACE"
             f"{SIDE} says that it is not what was saved, or lacks what a refused call says: not all was judged.")
 
-NOT_JUDGED = "nothing was judged, since line {line} of the trace can't be read. `domepeeler` says of it:"
+NOT_JUDGED = "nothing was judged, since line {line} of the trace can't be read"
+OWN_MESSAGE = "the program's own message:"
 
 
 def words_asked() -> argparse.Namespace:
@@ -111,8 +112,9 @@ def say_fault(judged: Judged, trace: bytes, name: str) -> None:
     """That nothing was judged, the program's own line, and what it means."""
     about = about_fault(judged.error, trace, name)
     found = CAUSE.search(judged.error)
-    told = f"{NAME}: {NOT_JUDGED.format(line=found[1])} " if about and found else ""
-    print("\n  ".join([told + shown_lines(judged.error), *about]), file=sys.stderr)
+    own = shown_lines(judged.error)
+    told = [f"{NAME}: {NOT_JUDGED.format(line=found[1])}", *about, f"{OWN_MESSAGE} {own}"] if about and found else [own]
+    print("\n  ".join(told), file=sys.stderr)
 
 
 def write_small(path: str, evidence: Evidence, told: Evidence, program: str, known: Beside, apart: Apart) -> None:
@@ -131,7 +133,7 @@ def write_small(path: str, evidence: Evidence, told: Evidence, program: str, kno
     print(f"\n{shown(path)} {same_as(evidence, told)} in {len(lines)} lines instead of {len(evidence.recording.lines)}. It keeps only what the verdict needs. What causes the bug may be among "
           "what was left out: if you repeat these steps, your editor may answer differently. Each of its operations, and which one of the whole trace that is:")
     made = Recording(small.text)
-    named = [f"{name} here, {operation.name} there (line {operation.line}{', a read in its place' if made.operation(name).kind != operation.kind else ''})" for name, operation in small.operations]
+    named = [f"{name} here, {operation.name} there (line {operation.line}{'; here only a read' if made.operation(name).kind != operation.kind else ''})" for name, operation in small.operations]
     print("  " + "; ".join(named[:MOST_TOLD]) + (f"; and {len(named) - MOST_TOLD} more" if len(named) > MOST_TOLD else ""))
 
 

@@ -6,7 +6,7 @@ from itertools import accumulate
 from math import log
 from typing import NamedTuple
 
-from .files import Unread, read_file
+from .files import Unread, read_file, shown
 from .recordings import Operation, Receipt, Recording
 from .rows import Row
 from .telling import joined
@@ -223,7 +223,7 @@ def unneeded(failing: list) -> list:
     """What a failure does not need, with how many fail without it."""
     without = {"deletes": sum(not session.has_delete for session in failing),
                "concurrent changes": sum(not session.is_concurrent for session in failing)}
-    return [f"without {what} ({count} of the {len(failing)} do)" for what, count in without.items() if count >= max(UNNEEDED_FROM * len(failing), 2)]
+    return [f"{count} of the {len(failing)} have no {what}" for what, count in without.items() if count >= max(UNNEEDED_FROM * len(failing), 2)]
 
 
 def in_common(rows: list) -> list:
@@ -238,7 +238,9 @@ def in_common(rows: list) -> list:
         which = f"all {one.count}" if one.count == len(failing) else f"{one.count} of the {len(failing)}"
         lines.append(f"  {IN_WORDS[one.name]}: {'just before' if one.is_right_before else 'before'} {which} wrong lists, {one.others}")
     without = unneeded(failing) if lines else []
-    lines += [f"  They fail also {joined(without)}, so the bug does not need these."] if without else []
+    lines += [f"  Up to where they fail, {joined(without)}: so the bug does not need these."] if without else []
+    first = min(wrong, key=lambda row: (row.fails_at, row.lines, row.file))
+    lines += [f"  To see why one fails: domepeeler-explain {shown(first.file)}"] if lines else []
     kinds = sorted({row.verdict for row in wrong})
     several = f" Their verdicts are not the same ({joined(kinds)}), so there may be more than one bug." if kinds[1:] else ""
     beside = f", compared with {counted(passing, right, 'session')} that pass{'' if right[1:] else 'es'}" if passing else ""

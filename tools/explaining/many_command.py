@@ -149,7 +149,7 @@ def together(rows: list) -> list:
     return [(same[0], len(same) - 1) for same in found.values()]
 
 
-VERDICT_THERE = "; `verdict there`: on the lines up to `fails at`"
+VERDICT_THERE = "`verdict` is of the whole trace, and `verdict there` of the lines up to `fails at`: begin with that"
 
 
 def first_fault_of(row: Row) -> str:
@@ -182,7 +182,9 @@ def print_table(rows: list, listed: list, is_weak: bool) -> None:
     left = sum(more for _, more in rows_told)
     unlisted = f"; {left} more look{'s' if left == 1 else ''} the same as a listed one (`similar`)" if left else ""
     is_other = any(row.first_fault for row, _ in rows_told)
-    print(f"{len(rows)} trace{'' if len(rows) == 1 else 's'}: {told}{unlisted}{VERDICT_THERE if is_other else ''}")
+    print(f"{len(rows)} trace{'' if len(rows) == 1 else 's'}: {told}{unlisted}")
+    if is_other:
+        print(VERDICT_THERE)
 
 
 def object_of(row: Row) -> dict:

@@ -52,7 +52,7 @@ def explanation(evidence: Evidence, told: Evidence, language: str = debuggers.US
     if whole:
         more = "the same verdict, because of other responses" if is_alike else f"another verdict, {verdict_of(evidence.report)}, which is explained below"
         headline += f" This fault comes first, in lines 1 to {told.last_line}: start with it. The whole trace has {more}." if not passes else (
-            f" All below is about lines 1 to {told.last_line}, the fewest first lines in which it fails{'' if is_alike else f'; the whole trace is {verdict_of(evidence.report)}'}.")
+            f" Up to line {told.last_line - 1} it holds; all below is about lines 1 to {told.last_line}{'' if is_alike else f'; the whole trace is {verdict_of(evidence.report)}'}.")
     if passes:
         headline = f"{WEAK_ALONE}: this passes, since only the weak list specification is asked for. Nothing needs mending. Why the strong one fails: {headline}"
     return Explanation(headline, [*when_it_went_wrong(evidence, told, weak), *without_receipts(told), *sections, *where,
@@ -329,7 +329,7 @@ def expected(evidence: Evidence, operation: Operation) -> str:
     return f"it should hold, in any order: {marked(wanted, set(evidence.missing))}"
 
 
-def since(evidence: Evidence, operation: Operation, still: str = "is right") -> str:
+def since(evidence: Evidence, operation: Operation, still: str = "holds what it should") -> str:
     """What came to the replica since its operation before, which is right: the program names the first fault."""
     before, receipts = evidence.before(operation)
     arrived = [f"{receipt.seen.name} (line {receipt.line})" for receipt in receipts]
