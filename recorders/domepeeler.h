@@ -1583,9 +1583,9 @@ static inline char *domepeeler_warnings_now(struct domepeeler *d) {
     w.said = &said;
     if (domepeeler_warned_room(&w, entries)) {
         domepeeler_read_entries(&w);
+        domepeeler_say_unshown(&w);
         domepeeler_say_different(&w);
         domepeeler_say_unheard(&w);
-        domepeeler_say_unshown(&w);
         domepeeler_say_without_operation(&w);
         domepeeler_say_of_nothing(&w);
         if (w.past_end.text) domepeeler_say(&said, "%s", w.past_end.text);

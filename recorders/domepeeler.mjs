@@ -958,7 +958,7 @@ function hidden(lines) {
   const ofNothing = deletes.filter(([name]) => !inserted.has(name)).map(([, said]) => said)
   const silent = ends.flatMap(({ pasts, receipts }, replica) => (pasts.length ? [] :
     [`replica ${replica} has ${receipts ? "receipts, but no operation" : "no entry"}: nothing that it showed is judged`]))
-  return [...different(ends), ...unheard(ends), ...unshown(ends), ...silent, ...some(ofNothing, "delete", "of elements that no line inserts"),
+  return [...unshown(ends), ...different(ends), ...unheard(ends), ...silent, ...some(ofNothing, "delete", "of elements that no line inserts"),
     ...some(pastEnd, "insert", "past the end of a list")]
 }
 

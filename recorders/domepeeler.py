@@ -972,7 +972,7 @@ def _hidden(lines: List[str]) -> List[str]:
     of_nothing = [told for name, told in deletes if name not in inserted]
     silent = [f"replica {replica} has {'receipts, but no operation' if one.receipts else 'no entry'}: nothing that it showed is judged"
               for replica, one in enumerate(ends) if not one.pasts]
-    return [*_different(ends), *_unheard(ends), *_unshown(ends), *silent, *_some(of_nothing, "delete", "of elements that no line inserts"),
+    return [*_unshown(ends), *_different(ends), *_unheard(ends), *silent, *_some(of_nothing, "delete", "of elements that no line inserts"),
             *_some(past_end, "insert", "past the end of a list")]
 
 

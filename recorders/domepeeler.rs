@@ -1369,9 +1369,9 @@ impl<'a> Warned<'a> {
         if self.recording.callers.is_empty() {
             return vec!["nothing was recorded: the trace has no entry, so the verdict says nothing about your editor".to_string()];
         }
-        let mut all = self.different();
+        let mut all = self.unshown();
+        all.extend(self.different());
         all.extend(self.unheard());
-        all.extend(self.unshown());
         all.extend(self.without_operation());
         all.extend(some(&self.of_nothing, "delete", "of elements that no line inserts"));
         all.extend(some(&self.past_end, "insert", "past the end of a list"));

@@ -669,21 +669,20 @@ WARNED = [
      f"in the end replicas 0 and 1 show different lists|replica 0 never hears of replica 1: {UNHEARD}|replica 1 never hears of replica 0: {UNHEARD}"),
     ("one that never hears of three others", 4, "0 ins a 0 : a|1 del a :|1 recv 0 1|2 ins c 0 : c|2 recv 1 1|2 recv 0 1|0 recv 2 1|"
      "0 recv 1 1|1 recv 2 1|3 read :",
-     f"in the end replicas 0, 1, 2 and 3 do not all show the same list (1 and 3 do)|replica 3 never hears of replicas 0, 1 and 2: {UNHEARD}|"
      f"replica 0 received 2.1 (line 9) and 1.1 (line 10) last, and shows no list after them: {UNSHOWN}|"
      f"replica 1 received 0.1 (line 5) and 2.1 (line 11) last, and shows no list after them: {UNSHOWN}|"
-     f"replica 2 received 1.1 (line 7) and 0.1 (line 8) last, and shows no list after them: {UNSHOWN}"),
+     f"replica 2 received 1.1 (line 7) and 0.1 (line 8) last, and shows no list after them: {UNSHOWN}|"
+     f"in the end replicas 0, 1, 2 and 3 do not all show the same list (1 and 3 do)|replica 3 never hears of replicas 0, 1 and 2: {UNHEARD}"),
     ("one that hears of a read alone", 2, "0 read :|1 recv 0 1|1 read :|0 ins a 0 : a",
      f"in the end replicas 0 and 1 show different lists|replica 1 never hears of replica 0: {UNHEARD}"),
     ("all hear by way of a third", 3, "0 ins a 0 : a|2 recv 0 1|2 read : a|1 ins b 0 : b|1 recv 2 1|2 recv 1 1|2 read : b a|0 recv 2 2|"
      "0 read : b a|1 read : b a", ""),
-    ("one that hears at the end", 2, "0 ins a 0 : a|1 read :|1 recv 0 1", "in the end replicas 0 and 1 show different lists|"
-     f"replica 1 received 0.1 (line 5) last, and shows no list after that: {UNSHOWN}"),
+    ("one that hears at the end", 2, "0 ins a 0 : a|1 read :|1 recv 0 1",
+     f"replica 1 received 0.1 (line 5) last, and shows no list after that: {UNSHOWN}|in the end replicas 0 and 1 show different lists"),
     ("one that hears at the end, and shows a part", 2, "0 ins a 0 : a|1 recv 0 1|1 view :",
      f"replica 1 received 0.1 (line 4) last, and shows no list but a view after that: {UNSHOWN}"),
     ("a receipt before a view and one behind it", 2, "0 ins a 0 : a|1 read :|1 recv 0 1|1 view : a|0 ins b 0 : b a|1 recv 0 2",
-     "in the end replicas 0 and 1 show different lists|replica 1 received 0.1 (line 5) and 0.2 (line 8) last, and shows no list after "
-     f"them: {UNSHOWN}"),
+     f"replica 1 received 0.1 (line 5) and 0.2 (line 8) last, and shows no list after them: {UNSHOWN}|in the end replicas 0 and 1 show different lists"),
     ("a list between a receipt and a view", 2, "0 ins a 0 : a|1 recv 0 1|1 read : a|1 view : a", ""),
     ("one that reads is not heard of", 2, "0 ins a 0 : a|1 recv 0 1|1 read : a", ""),
     ("a delete before its insert", 2, "0 ins a 0 : a|1 del a :|1 recv 0 1|1 read :|0 recv 1 1|0 read :", ""),
@@ -698,8 +697,7 @@ WARNED = [
      "in the end replicas 0, 1 and 2 show different lists: 0.2 (line 8), 0.3 (line 9), 0.4 (line 10) and 1 more never arrived at replica 1; "
      f"0.4 (line 10) and 0.5 (line 11) never arrived at replica 2 in this recording. {THEY}"),
     ("one that makes nothing of what came last", 2, "0 ins a 0 : a|1 recv 0 1|1 read : a|0 ins b 1 : a b|0 read : a b|1 recv 0 3",
-     "in the end replicas 0 and 1 show different lists|replica 1 received 0.3 (line 8) last, and shows no list after that: "
-     f"{UNSHOWN}"),
+     f"replica 1 received 0.3 (line 8) last, and shows no list after that: {UNSHOWN}|in the end replicas 0 and 1 show different lists"),
     ("one that receives what it has", 2, "0 ins a 0 : a|1 recv 0 1|1 read : a|0 read : a|1 recv 0 2|1 recv 0 1", ""),
     ("lists in other orders", 2, "0 ins a 0 : a|0 ins b 1 : a b|1 recv 0 2|1 read : a b", ""),
 ]
@@ -1046,7 +1044,7 @@ def paragraph(said: str, title: str) -> str:
 
 
 NOT_JUDGED = "domepeeler-explain: nothing was judged, since {} of the trace can't be read"
-OWN_MESSAGE = "  the program's own message: "
+OWN_MESSAGE = "  `domepeeler verdict` says: "
 
 
 def faults(tally: Tally, program: str, folder: str) -> None:
@@ -1800,6 +1798,11 @@ FIRST_TOLD = {
     "an element too many, whose insert came twice before it was deleted": ("", 2, "0 ins a 0 : a|1 recv 0 1|1 recv 0 1|1 read : a|1 del a : a", "The replica received nothing between 1.1 (line 6) and this response"),
     "identifiers before a place that was": ("identifiers", 2, "0 ins a 0 : a|0 ins b 1 : a b|0 ins c 2 : a b c|0 ins d 3 : a b c d|1 recv 0 4|1 del a : b c d|0 recv 1 1|0 ins e 2 : b e c d",
         "Print the position identifiers of"),
+    "two inserts, of which the earlier one and a third stand in two orders": ("", 2, "0 ins a 0 : a|1 ins b 0 : b|0 recv 1 1|0 ins c 1 : b c a|1 recv 0 1|1 recv 0 2|1 read : a b c",
+        "When replica 0 inserted [c] (0.2, line 6), it had [a] already, and put [c] before it. That order must hold everywhere, but 1.2 (line 9) shows [c] behind [a]. Look at the message that replica 0 made for that "
+        "insert, and at where replica 1 placed it in line 8. Often the clock that decides between inserts does not advance when changes arrive, or advances past only the first element of a paste; or the neighbour is not "
+        "found; or elements are stored in runs (blocks of several), and a run is split at a wrong offset. These two responses show a and b in two orders too, and neither author knew of the other's insert. Perhaps a is misplaced, and [c] stands "
+        "rightly beside what is around it: so look also at where replica 1 placed a in line 7."),
     "identifiers where an author is alone": ("identifiers", 2, f"{BESIDE_DELETED}|0 recv 1 2|0 read : c d", "Print the position identifiers of"),
 }
 
@@ -2560,7 +2563,7 @@ def together(tally: Tally, program: str, folder: str) -> None:
         if got.status != 1:
             continue
         small, of_whole = (Recording(text) for text in (path.read_text(), whole))
-        named = re.findall(r"(\d+\.\d+) here, (\d+\.\d+) there \(line (\d+)(; here only a read)?\)", got.out.decode())
+        named = re.findall(r"(\d+\.\d+) is (\d+\.\d+) there \(its line (\d+)\)(, made a read)?", got.out.decode())
         reads |= {(small.operation(name).kind, bool(told)) for name, _, _, told in named}
         tally.check(f"small: what became a read is told so: {seed}", named and all(
             int(line) == of_whole.operation(other).line and bool(told) == (small.operation(name).kind != of_whole.operation(other).kind) for name, other, line, told in named), got)

@@ -389,13 +389,13 @@ IN_COMMON = {
         "  a change arrived whose author had not seen one of the receiver's own changes: before all 5 wrong lists, and in 2 sessions that pass"]),
     # Of 48 correct lists 12 come so: one in each failing session, two in each of the four that pass.
     "at one place": ([(4, f"{TIED} b a")], [(4, f"{TIED} a b"), (4, IN_TURN)], [
-        "  an insert arrived at a place where an element stood that its author had not seen: just before all 4 wrong lists, and just before 25 % of the correct ones",
+        "  an insert arrived at a place where an element stood that the insert's author had not seen: just before all 4 wrong lists, and just before 25 % of the correct ones",
         "  a change arrived whose author had not seen one of the receiver's own changes: just before all 4 wrong lists, and just before 25 % of the correct ones",
         "  Up to where they fail, 4 of the 4 have no deletes: so the bug does not need these."]),
     "none that pass, and few lists": ([(3, BEGUN_ONCE)], [], []),
     # Of 24 correct lists 8 come so.
     "none that pass": ([(8, f"{TIED} b a")], [], [
-        "  an insert arrived at a place where an element stood that its author had not seen: just before all 8 wrong lists, and just before 33 % of the correct ones",
+        "  an insert arrived at a place where an element stood that the insert's author had not seen: just before all 8 wrong lists, and just before 33 % of the correct ones",
         "  a change arrived whose author had not seen one of the receiver's own changes: just before all 8 wrong lists, and just before 33 % of the correct ones",
         "  Up to where they fail, 8 of the 8 have no deletes: so the bug does not need these."]),
     "too few": ([(2, BEGUN_TWICE)], [(10, RIGHT_ONCE)], []),
@@ -403,10 +403,10 @@ IN_COMMON = {
 }
 # By planted bug what the first line says, by what the bug is.
 OF_PLANTED = {
-    "tombstone": "an insert arrived whose neighbour was deleted there", "tie": "an insert arrived at a place where an element stood that its author had not seen",
+    "tombstone": "an insert arrived whose neighbour was deleted there", "tie": "an insert arrived at a place where an element stood that the insert's author had not seen",
     "clock": "a replica inserted directly behind an element of another replica", "overtaking": "several changes arrived at once",
     "mapping": "an insert arrived whose author had not seen a delete that the receiver had", "unmoved": "a delete arrived whose author had not seen an insert that the receiver had",
-    "behind": "an insert arrived at a place where an element stood that its author had not seen", "twice": "a delete arrived whose element was deleted there already",
+    "behind": "an insert arrived at a place where an element stood that the insert's author had not seen", "twice": "a delete arrived whose element was deleted there already",
     "none": "", "none_behind_server": "",
 }
 
@@ -684,7 +684,7 @@ def here_and_elsewhere(tally: Tally, program: str, folder: str, other: str, want
         tally.check(f"{machines}: all traces stay here, and none there", sorted(map(str, Path(folder).rglob("*"))) == before and not left, left)
 
 
-VERDICT_THERE = "`verdict` is of the whole trace, and `verdict there` of the lines up to `fails at`: begin with that"
+VERDICT_THERE = "`verdict` and `k` are of the whole trace, `verdict there` is of its lines up to `fails at`. Where they differ, begin with `verdict there`"
 
 
 def fails_at(tally: Tally, program: str, folder: str) -> None:

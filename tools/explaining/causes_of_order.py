@@ -6,7 +6,7 @@ import re
 from .cause import ALONE, BY_ITSELF, MOST_MET, MOST_TOLD, OWN_ADJUSTED, Cause, at_once, deleted_twice, emptied, is_agreed, is_deleted, lost, named, on_way_then, otherwise
 from .evidence import Evidence
 from .kinds import BY_ELEMENTS, IDENTIFIERS, NEIGHBOURS, POSITIONS, TREE, is_possible
-from .positions import are_put_at_once, elements_before, list_of, met_inserts, neighbours, put_there_at_once
+from .positions import are_put_at_once, elements_before, is_known, list_of, met_inserts, neighbours, put_there_at_once
 from .recordings import Operation, Receipt, place_asked
 from .telling import at, counted, joined, listed
 
@@ -54,7 +54,7 @@ HIDDEN_BESIDE = "{element} was put beside {gone}, which {were} deleted before {o
 SEVERAL_DELETED = ("Look at positions beside deleted elements: any {fewer} of {named} fit together, but not all {k}; perhaps an insert lost its place "
                    "because its neighbour was deleted meanwhile. {next}")
 NEXT = "Look first at where replica {replica} placed {element} in line {line}: it belongs beside {gone}, which had been deleted there."
-NO_NEXT = "The lines above say which elements each response no longer has."
+NO_NEXT = "Above, under *The elements*, stands which of them each response no longer has."
 SEVERAL_APART = ("Look at how a replica orders elements when it has only some of them: any {fewer} of {named} fit together, but not all {k}. The elements that some of "
                  "these responses lack had not arrived there yet; they were not deleted. Often the rule that orders concurrent inserts is not the same everywhere.")
 WEAK_ALONE_HOLDS = ("An editor whose server orders all changes, as Jupiter's does, promises only the weak list specification, which holds here. If yours is such an editor, nothing is wrong here: "
@@ -111,6 +111,8 @@ LET_OUT = (" [{old}] arrived at replica {replica} together with others, with no 
            "whether a released change does all that others do, such as advancing the clock.")
 SEEN = ("When replica {author} inserted [{new}] ({later}, line {line}), it had [{old}] already{since}, and put [{new}] {side} it. That order must hold everywhere, but {operation} "
         "shows [{new}] {other_side} [{old}]. {look}.{numbers}{let_out}")
+TURNED_TOO = (" These two responses show {old} and {other} in two orders too, and neither author knew of the other's insert. Perhaps {old} is misplaced, and [{new}] stands rightly beside what "
+              "is around it: so look also at where replica {replica} placed {which} in line {line}.")
 OF_AUTHOR_OR_PLACE = "Look at the message that replica {author} made for that insert, and at where replica {replica} placed it{arrived}"
 BETWEEN_THE_TWO = "Look at what replica {author} did between the two responses"
 SEEN_IN_CYCLE = ("When replica {author} inserted [{new}] ({later}, line {line}), it had [{old}] already{since}, and put [{new}] {side} it: look at whether the message for that insert says so too, "
@@ -327,7 +329,7 @@ def of_refusal(evidence: Evidence, weak: bool) -> list:
     later, old = (first, then) if first.has_seen(then) else (then, first)
     moved = moved_over(evidence)
     told = seen(evidence, later, old, not (weak and moved))
-    told += put_meanwhile(evidence, later) or put_meanwhile(evidence, old)
+    told += turned_too(evidence, later, old) or put_meanwhile(evidence, later) or put_meanwhile(evidence, old)
     if weak and moved and evidence.kind != POSITIONS:
         return [*turned_by_itself(evidence), *lost(evidence), *shown_alone(evidence), *reordered(evidence), Cause("seen", told), *moved_insert(moved), *beside_deleted(evidence)]
     place = later.response.index(later.element)
@@ -372,6 +374,19 @@ def unlike_author(evidence: Evidence, later: Operation, old: Operation) -> Opera
     """The response that shows two elements otherwise than the author of the later one."""
     names = [name for name in later.response if name in (later.element, old.element)]
     return next((operation for operation in evidence.operations if [name for name in operation.response if name in names] != names), evidence.operations[0])
+
+
+def turned_too(evidence: Evidence, later: Operation, old: Operation) -> str:
+    """Where the same two responses turn round the earlier of two inserts and a third one too, neither author knowing of the other's, and one of them came to the replica that shows it otherwise."""
+    unlike = unlike_author(evidence, later, old)
+    one, two = [operation.response for operation in evidence.operations[:2]]
+    for name in [name for name in one if name in two and name not in (later.element, old.element)]:
+        insert = evidence.recording.inserts[name][0]
+        is_turned = (one.index(old.element) < one.index(name)) != (two.index(old.element) < two.index(name))
+        came = [change for change in (old, insert) if change.replica != unlike.replica and evidence.recording.arrival(change, unlike.replica) is not None]
+        if is_turned and not is_known(old, insert) and came:
+            return TURNED_TOO.format(old=old.element, other=name, new=later.element, replica=unlike.replica, which=came[-1].element, line=evidence.recording.arrival(came[-1], unlike.replica).line)
+    return ""
 
 
 def seen(evidence: Evidence, later: Operation, old: Operation, is_numbered: bool) -> str:

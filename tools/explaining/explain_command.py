@@ -32,7 +32,7 @@ STATUSES = ("It ends with the program's status: 0 accepted, 1 any other verdict,
             f"{SIDE} says that it is not what was saved, or lacks what a refused call says: not all was judged.")
 
 NOT_JUDGED = "nothing was judged, since line {line} of the trace can't be read"
-OWN_MESSAGE = "the program's own message:"
+OWN_MESSAGE = "`domepeeler verdict` says:"
 
 
 def words_asked() -> argparse.Namespace:
@@ -131,9 +131,9 @@ def write_small(path: str, evidence: Evidence, told: Evidence, program: str, kno
     if os.path.isfile(path):  # a pipe or a device has no file beside it
         write(path + SIDE, "".join(f"{line}\n" for line in [len(lines), SMALL_MARK.decode(), *known.marks(small.lines), *placed]))
     print(f"\n{shown(path)} {same_as(evidence, told)} in {len(lines)} lines instead of {len(evidence.recording.lines)}. It keeps only what the verdict needs. What causes the bug may be among "
-          "what was left out: if you repeat these steps, your editor may answer differently. Each of its operations, and which one of the whole trace that is:")
+          "what was left out: if you repeat these steps, your editor may answer differently. Its operations, and what they are in the whole trace:")
     made = Recording(small.text)
-    named = [f"{name} here, {operation.name} there (line {operation.line}{'; here only a read' if made.operation(name).kind != operation.kind else ''})" for name, operation in small.operations]
+    named = [f"{name} is {operation.name} there (its line {operation.line}){', made a read' if made.operation(name).kind != operation.kind else ''}" for name, operation in small.operations]
     print("  " + "; ".join(named[:MOST_TOLD]) + (f"; and {len(named) - MOST_TOLD} more" if len(named) > MOST_TOLD else ""))
 
 

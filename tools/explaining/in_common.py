@@ -21,7 +21,7 @@ IN_WORDS = {
     TWICE: "a delete arrived whose element was deleted there already",
     OWN: "a change arrived whose author had not seen one of the receiver's own changes",
     SEVERAL_OWN: "a change arrived whose author had not seen several of the receiver's own changes",
-    ONE_PLACE: "an insert arrived at a place where an element stood that its author had not seen",
+    ONE_PLACE: "an insert arrived at a place where an element stood that the insert's author had not seen",
     BESIDE: "an insert arrived whose neighbour was deleted there",
     NAMES_GONE: "a change arrived that deletes, or stands beside, an element which was deleted there",
     TOGETHER: "several changes arrived at once",

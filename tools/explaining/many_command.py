@@ -149,7 +149,7 @@ def together(rows: list) -> list:
     return [(same[0], len(same) - 1) for same in found.values()]
 
 
-VERDICT_THERE = "`verdict` is of the whole trace, and `verdict there` of the lines up to `fails at`: begin with that"
+VERDICT_THERE = "`verdict` and `k` are of the whole trace, `verdict there` is of its lines up to `fails at`. Where they differ, begin with `verdict there`"
 
 
 def first_fault_of(row: Row) -> str:

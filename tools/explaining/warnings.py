@@ -115,7 +115,7 @@ def hidden(trace: bytes) -> tuple:
                             f"so nothing was there to delete: is {words[2].decode()} the right name, and was its insert recorded?"))
     of_nothing = [told for name, told in deletes if name not in inserted]
     others = [*some(of_nothing, "delete", "of elements that no line inserts"), *some(past_end, "insert", "past the end of a list")]
-    ends, silent = [*different(replicas), *unheard(replicas), *unshown(replicas)], without_operation(replicas)
+    ends, silent = [*unshown(replicas), *different(replicas), *unheard(replicas)], without_operation(replicas)
     if any(one.changes for one in replicas):  # of which a silent replica shows nothing
         return [*ends, *silent], others
     return ends, [*silent, *others]
