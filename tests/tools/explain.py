@@ -420,7 +420,7 @@ WORDS = [
      "writes the name of the element that was really deleted.|If the editor sends positions, the position of 1.2 was perhaps not adjusted for the insert of c by 0.3 (line 8), which the author of 1.2 had not seen." + stop(9, "replica 0 applies 1.2")),
     ("an insert that another one at its place has shifted", 2, "0 ins b 0 : b|0 ins c 0 : c b|1 ins a 0 : a|1 recv 0 1|1 read : a b|1 recv 0 2|"
      "1 read : a b c",
-     "When replica 0 inserted [c] (0.2, line 4), it had [b] already, and put [c] before it. That order must hold everywhere, but 1.3 (line 9) shows [c] behind [b]. Look at the message that replica 0 made for that insert, and at where replica 1 placed it in line 8. Often the clock that decides between inserts does not advance when changes arrive, or advances past only the first element of a paste; or the neighbour is not found; or elements are stored in runs (blocks of several), and a run is split at a wrong offset. a was inserted at the same place as c concurrently: check also that every replica puts the same of the two first." + stop(8, "replica 1 applies 0.2", 6)),
+     "When replica 0 inserted [c] (0.2, line 4), it had [b] already, and put [c] before it. That order must hold everywhere, but 1.3 (line 9) shows [c] behind [b]. Look at the message that replica 0 made for that insert, and at where replica 1 placed it in line 8. Often the clock that decides between inserts does not advance when changes arrive, or advances past only the first element of a paste; or the neighbour is not found; or elements are stored in runs (blocks of several), and a run is split at a wrong offset. a was inserted at the same place as c concurrently: check also that every replica puts the same one first." + stop(8, "replica 1 applies 0.2", 6)),
     ("a receipt that comes before the change is applied", 2, "0 ins a 0 : a|1 recv 0 1|1 read : a|0 ins b 1 : a b|0 del a : b|1 recv 0 3|1 read : a",
      "contents 1.2: this response lacks one element that replica 1 should have had by then, and has one element that should not be there.||"
      "Where to look|"
@@ -481,7 +481,7 @@ WORDS = [
      "had not seen."),
     ("a delete of one of two that were inserted at one place", 2, "0 ins a 0 : a|0 del a :|1 ins b 0 : b|1 recv 0 1|1 read : a b|1 recv 0 2|1 read : a",
      "It looks as if 0.2 (line 4), applied at replica 1, deleted b instead of a: look at how a replica that applies a delete finds the element, and at whether the recorder "
-     "writes the name of the element that was really deleted.|If the editor sends positions, the position of 0.2 was perhaps not adjusted for the insert of b by 1.1 (line 5), which the author of 0.2 had not seen. b was inserted at the same place as a concurrently: check also that every replica puts the same of the two first."),
+     "writes the name of the element that was really deleted.|If the editor sends positions, the position of 0.2 was perhaps not adjusted for the insert of b by 1.1 (line 5), which the author of 0.2 had not seen. b was inserted at the same place as a concurrently: check also that every replica puts the same one first."),
     ("doubled", 2, "0 ins a 0 : a|0 ins b 1 : a b|1 ins b 0 : b",
      "doubled: 0.2 and 1.1 insert the same name, b. An element is known by its name, so nothing else was judged.|"
      "line 4 of the trace, 0.2: replica 0 inserted b at position 1|line 5, 1.1: replica 1 inserted b at position 0||"
@@ -1758,7 +1758,7 @@ FIRST_TOLD = {
         "Replica 0 showed its own changes in 0.2 (line 4), and shows them no more: the insert of a by 0.1 (line 3) and the insert of b by 0.2 (line 4). Since then it received the insert of c by 1.2 "
         "(line 7). Was the replica's list replaced by a state from elsewhere"),
     "a place from before what came": ("neighbours", 2, "0 ins a 0 : a|0 ins b 1 : a b|0 ins c 2 : a b c|0 ins d 3 : a b c d|1 recv 0 4|1 del a : b c d|0 recv 1 1|0 ins e 2 : b e c d",
-        "[e] stands where position 2 was in 0.4 (line 6). After that came the delete of a by 1.1 (in line 9). Does the editor still use something from before that (a place, an offset, an index, a copy of the list)? Every kind of change that arrives must update it."),
+        "[e] stands where position 2 was earlier, in 0.4 (line 6), which answered a b c d. After that came the delete of a by 1.1 (in line 9). Does the editor still use something from before that (a place, an offset, an index, a copy of the list)? Every kind of change that arrives must update it."),
     "an order that a delete hides": ("neighbours", 3, "0 ins n 0 : n|1 ins o 0 : o|2 recv 0 1|2 recv 1 1|2 read : n o|2 ins l 1 : n l o|0 del n :|0 recv 1 1|0 read : o|0 recv 2 2|0 read : o l",
         "[l] was put directly behind n (0.1 (line 3)), and n and [o] were inserted at the front without knowing of each other. n is deleted at replica 0, which never showed n and [o] together: perhaps it still keeps n, but on the other side of [o] than replica 2 has it. Then "
         "[l], put rightly beside n, stands there too. So look first at where these concurrent inserts were put when they arrived: n in line 5 (replica 2), o in line 6 (replica 2) and o in line 10 (replica 0)."),
@@ -1801,8 +1801,8 @@ FIRST_TOLD = {
     "two inserts, of which the earlier one and a third stand in two orders": ("", 2, "0 ins a 0 : a|1 ins b 0 : b|0 recv 1 1|0 ins c 1 : b c a|1 recv 0 1|1 recv 0 2|1 read : a b c",
         "When replica 0 inserted [c] (0.2, line 6), it had [a] already, and put [c] before it. That order must hold everywhere, but 1.2 (line 9) shows [c] behind [a]. Look at the message that replica 0 made for that "
         "insert, and at where replica 1 placed it in line 8. Often the clock that decides between inserts does not advance when changes arrive, or advances past only the first element of a paste; or the neighbour is not "
-        "found; or elements are stored in runs (blocks of several), and a run is split at a wrong offset. These two responses show a and b in two orders too, and neither author knew of the other's insert. Perhaps a is misplaced, and [c] stands "
-        "rightly beside what is around it: so look also at where replica 1 placed a in line 7."),
+        "found; or elements are stored in runs (blocks of several), and a run is split at a wrong offset. These two responses show a and b in two orders too; these were inserted without knowing of each other. If a was put on the "
+        "wrong side of b, the place of [c] may be right: so look also at where replica 1 placed a in line 7."),
     "identifiers where an author is alone": ("identifiers", 2, f"{BESIDE_DELETED}|0 recv 1 2|0 read : c d", "Print the position identifiers of"),
 }
 
@@ -2549,6 +2549,9 @@ def kept_more(tally: Tally) -> None:
     tally.check("small: none", smallest(evidence, lambda trace: None) is None)
 
 
+OF_SMALL = "\n  These are the steps of the small trace: repeat those. In the session itself, stop as the whole trace's explanation says.\n"
+
+
 def together(tally: Tally, program: str, folder: str) -> None:
     """Two operations that one receipt has brought get a receipt each where what brought them is left out."""
     trace = text_of(4, "0 ins a 0 : a|1 ins b 0 : b|0 recv 1 1|0 read : a b|3 recv 0 1|3 recv 1 1|3 read : a b|2 recv 3 1|2 read : b a")
@@ -2563,10 +2566,12 @@ def together(tally: Tally, program: str, folder: str) -> None:
         if got.status != 1:
             continue
         small, of_whole = (Recording(text) for text in (path.read_text(), whole))
-        named = re.findall(r"(\d+\.\d+) is (\d+\.\d+) there \(its line (\d+)\)(, made a read)?", got.out.decode())
+        named = re.findall(r"small (\d+\.\d+) = whole (\d+\.\d+) \(line (\d+)(; here a read in its place)?\)", got.out.decode())
         reads |= {(small.operation(name).kind, bool(told)) for name, _, _, told in named}
         tally.check(f"small: what became a read is told so: {seed}", named and all(
             int(line) == of_whole.operation(other).line and bool(told) == (small.operation(name).kind != of_whole.operation(other).kind) for name, other, line, told in named), got)
+        again = explain(program, [str(path)]).out.decode()
+        tally.check(f"small: where to stop is of its own steps: {seed}", OF_SMALL in again and OF_SMALL not in got.out.decode(), again)
     tally.check("small: some became reads, and others not", {("read", True), ("ins", False)} <= reads, reads)
 
 

@@ -684,7 +684,7 @@ def here_and_elsewhere(tally: Tally, program: str, folder: str, other: str, want
         tally.check(f"{machines}: all traces stay here, and none there", sorted(map(str, Path(folder).rglob("*"))) == before and not left, left)
 
 
-VERDICT_THERE = "`verdict` and `k` are of the whole trace, `verdict there` is of its lines up to `fails at`. Where they differ, begin with `verdict there`"
+FIRST_VERDICT = "`first verdict` is that of the lines up to `fails at`; `verdict` and `k` are of the whole trace. Where they differ, begin with the first"
 
 
 def fails_at(tally: Tally, program: str, folder: str) -> None:
@@ -709,7 +709,7 @@ def fails_at(tally: Tally, program: str, folder: str) -> None:
     tally.check("fails at: another verdict first, by hand", first == {**dict.fromkeys("abcde"), "g": "contents 1.2", "h": "contents 0.2", "i": "position 1.2"}, first)
     lines = [cells(line) for line in judge(program, [f"{folder}/{name}.trace" for name in "abgh"]).out.decode().splitlines()]
     tally.check("fails at: the table has a column for it", [(Path(line[0]).stem, line[3], line[4]) for line in lines[:-2]] == [
-        ("file", "fails at", "verdict there"), ("h", "4", "contents 0.2"), ("g", "4", "contents 1.2"), ("a", "6", "contents 0.4"), ("b", "6", "doubled 0.2 1.1")], lines)
+        ("file", "fails at", "first verdict"), ("h", "4", "contents 0.2"), ("g", "4", "contents 1.2"), ("a", "6", "contents 0.4"), ("b", "6", "doubled 0.2 1.1")], lines)
     for row in rows:
         lines = Path(row["file"]).read_bytes().splitlines(keepends=True)
         before, behind = (run(program, ["verdict", "-"], b"".join(lines[:count])).status for count in (row["fails_at"] - 1, row["fails_at"]))
@@ -2180,7 +2180,7 @@ def weak(tally: Tally, program: str, folder: str) -> None:
     usual = judge(program, [folder])
     told = usual.out.decode()
     tally.check("weak: not asked for", usual.status == 1 and "weak" not in told and not usual.err and told.endswith(
-        f"5 traces: 1 accepted, 3 refused, 1 contents\n{VERDICT_THERE}\n") and [cells(line)[1:6] for line in told.splitlines()[1:5]] == [
+        f"5 traces: 1 accepted, 3 refused, 1 contents\n{FIRST_VERDICT}\n") and [cells(line)[1:6] for line in told.splitlines()[1:5]] == [
             ("refused", "3", "11", "refused 3", "11"), ("contents", "-", "11", "refused 3", "14"), ("refused", "3", "11", "refused 3", "17"), ("refused", "2", "11", "refused 3", "17")], usual)
     passing = [f"{folder}/{name}.trace" for name in ("alone", "right", "unequal")]
     got = judge(program, ["--weak", *passing])

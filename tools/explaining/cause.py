@@ -19,7 +19,7 @@ NEVER_SENT = ("Look first at whether replica {author} has sent {changes} at all:
               "wrong place.")
 OTHERS_HAVE = "all other changes of replica {author} have one"
 ELSEWHERE_ONE = {True: "at another replica it has one", False: "at other replicas they have some"}
-PUT_AT_ONCE = {True: " {others} was inserted at the same place as {element} concurrently: check also that every replica puts the same of the two first.",
+PUT_AT_ONCE = {True: " {others} was inserted at the same place as {element} concurrently: check also that every replica puts the same one first.",
                False: " {others} were inserted at the same place as {element} concurrently: check also that every replica puts {element} on the same side of each of them."}
 OWN_ADJUSTED = ("how the replica's own changes that are still on their way are adjusted for an arriving change, and how that is adjusted for them (each for the unadjusted form of the other). If "
                 "the editor takes its own changes back and applies them again, look at how it does that.")

@@ -40,8 +40,8 @@ NUMBERS_TREE = ("Look at where a new child is put: {element} stands behind {pass
                 "{causes}ids are compared as text).")
 KEPT_PLACE = ("{came} came to replica {replica} in line {line}, beside {own}, which the replica had inserted earlier, by {insert}. Does the editor keep a position, or a range, from its last "
               "insert? Then a change that arrives must update it.")
-STALE = ("[{element}] stands where position {at} was in {before}. After that came {came}. Does the editor still use something from before that (a place, an offset, an index, a copy of the "
-         "list)? Every kind of change that arrives must update it.")
+STALE = ("[{element}] stands where position {at} was earlier, in {before}, which answered {shown}. After that came {came}. Does the editor still use something from before that (a place, an "
+         "offset, an index, a copy of the list)? Every kind of change that arrives must update it.")
 CLOCK = {True: "the clock does not advance with each insert; ", False: "the clock does not advance when changes arrive, or when one that was held back is applied; the replica's number is compared before the clock; "}
 BESIDE_DELETED = ("If inserts find their place by a neighbour, look at inserts beside deleted elements: {which}. If replicas throw "
                   "deleted elements away, nothing says then where the insert belongs; if they keep them, the search for its place must treat them like "
@@ -54,7 +54,7 @@ HIDDEN_BESIDE = "{element} was put beside {gone}, which {were} deleted before {o
 SEVERAL_DELETED = ("Look at positions beside deleted elements: any {fewer} of {named} fit together, but not all {k}; perhaps an insert lost its place "
                    "because its neighbour was deleted meanwhile. {next}")
 NEXT = "Look first at where replica {replica} placed {element} in line {line}: it belongs beside {gone}, which had been deleted there."
-NO_NEXT = "Above, under *The elements*, stands which of them each response no longer has."
+NO_NEXT = "Which elements each response no longer has stands above, under *The elements*."
 SEVERAL_APART = ("Look at how a replica orders elements when it has only some of them: any {fewer} of {named} fit together, but not all {k}. The elements that some of "
                  "these responses lack had not arrived there yet; they were not deleted. Often the rule that orders concurrent inserts is not the same everywhere.")
 WEAK_ALONE_HOLDS = ("An editor whose server orders all changes, as Jupiter's does, promises only the weak list specification, which holds here. If yours is such an editor, nothing is wrong here: "
@@ -111,8 +111,9 @@ LET_OUT = (" [{old}] arrived at replica {replica} together with others, with no 
            "whether a released change does all that others do, such as advancing the clock.")
 SEEN = ("When replica {author} inserted [{new}] ({later}, line {line}), it had [{old}] already{since}, and put [{new}] {side} it. That order must hold everywhere, but {operation} "
         "shows [{new}] {other_side} [{old}]. {look}.{numbers}{let_out}")
-TURNED_TOO = (" These two responses show {old} and {other} in two orders too, and neither author knew of the other's insert. Perhaps {old} is misplaced, and [{new}] stands rightly beside what "
-              "is around it: so look also at where replica {replica} placed {which} in line {line}.")
+TURNED_TOO = (" These two responses show {old} and {other} in two orders too; these were inserted without knowing of each other. If {old} was put on the wrong side of {other}, the place of [{new}] "
+              "may be right: so look also at where replica {replica} placed {which} in line {line}.")
+MOST_ROUND = 8  # elements of a list on either side of a place
 OF_AUTHOR_OR_PLACE = "Look at the message that replica {author} made for that insert, and at where replica {replica} placed it{arrived}"
 BETWEEN_THE_TWO = "Look at what replica {author} did between the two responses"
 SEEN_IN_CYCLE = ("When replica {author} inserted [{new}] ({later}, line {line}), it had [{old}] already{since}, and put [{new}] {side} it: look at whether the message for that insert says so too, "
@@ -176,6 +177,12 @@ def kept_place(evidence: Evidence) -> list:
     return [Cause("kept place", KEPT_PLACE.format(came=name, replica=receipt.replica, line=receipt.line, own=last.element, insert=at(last)))]
 
 
+def shortened(names: tuple, place: int) -> str:
+    """A list, cut where it is long, round a place."""
+    first, last = max(place - MOST_ROUND, 0), min(place + MOST_ROUND, len(names))
+    return " ".join([*([".."] if first else []), *names[first:last], *([".."] if last < len(names) else [])])
+
+
 def stale_place(evidence: Evidence) -> list:
     """Of a wrong position, that it led to the same place in a list that the replica showed before others' changes came."""
     if evidence.stale_place is None:
@@ -183,7 +190,7 @@ def stale_place(evidence: Evidence) -> list:
     before, came = evidence.stale_place
     operation = evidence.operations[0]
     news = [f"the {'insert' if change.kind == 'ins' else 'delete'} of {change.element} by {change.name} (in line {evidence.line_at(change, operation.replica)})" for change in came]
-    return [Cause("stale place", STALE.format(element=operation.element, at=operation.at, before=at(before), came=listed(news, MOST_MET)))]
+    return [Cause("stale place", STALE.format(element=operation.element, at=operation.at, before=at(before), came=listed(news, MOST_MET), shown=shortened(before.response, operation.at)))]
 
 
 def beside_gone(evidence: Evidence, passed: str) -> list:

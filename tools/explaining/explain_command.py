@@ -11,7 +11,7 @@ from .apart import Apart, told_apart, words_on
 from .beginning import explained
 from .commands import Once, Parser, add_version
 from .cycle_picture import drawing
-from .debuggers import LANGUAGES, USUAL
+from .debuggers import LANGUAGES, TITLE, USUAL
 from .evidence import Evidence, Unexplained
 from .faulty_lines import CAUSE, about_fault
 from .files import MOST_BYTES, NO_SIDE, SIDE, SMALL_MARK, Side, Unread, name_beside, read_both, shown, trace_written_over, write_file, written_over
@@ -33,6 +33,7 @@ STATUSES = ("It ends with the program's status: 0 accepted, 1 any other verdict,
 
 NOT_JUDGED = "nothing was judged, since line {line} of the trace can't be read"
 OWN_MESSAGE = "`domepeeler verdict` says:"
+OF_SMALL = "These are the steps of the small trace: repeat those. In the session itself, stop as the whole trace's explanation says."
 
 
 def words_asked() -> argparse.Namespace:
@@ -131,9 +132,9 @@ def write_small(path: str, evidence: Evidence, told: Evidence, program: str, kno
     if os.path.isfile(path):  # a pipe or a device has no file beside it
         write(path + SIDE, "".join(f"{line}\n" for line in [len(lines), SMALL_MARK.decode(), *known.marks(small.lines), *placed]))
     print(f"\n{shown(path)} {same_as(evidence, told)} in {len(lines)} lines instead of {len(evidence.recording.lines)}. It keeps only what the verdict needs. What causes the bug may be among "
-          "what was left out: if you repeat these steps, your editor may answer differently. Its operations, and what they are in the whole trace:")
+          "what was left out: if you repeat these steps, your editor may answer differently. Its operations, and those of the whole trace:")
     made = Recording(small.text)
-    named = [f"{name} is {operation.name} there (its line {operation.line}){', made a read' if made.operation(name).kind != operation.kind else ''}" for name, operation in small.operations]
+    named = [f"small {name} = whole {operation.name} (line {operation.line}{'; here a read in its place' if made.operation(name).kind != operation.kind else ''})" for name, operation in small.operations]
     print("  " + "; ".join(named[:MOST_TOLD]) + (f"; and {len(named) - MOST_TOLD} more" if len(named) > MOST_TOLD else ""))
 
 
@@ -157,6 +158,8 @@ def explain(asked: argparse.Namespace, program: str, trace: bytes, side: Side, j
     refused = tuple(map(shown, asked.refused)) or known.refused
     hidden = warnings_of(judged.report["verdict"], trace, side, is_alone, refused)
     words = with_places(with_warnings(words, placed_warnings(hidden.all, known), refused), known)
+    if (side.content or b"").split(b"\n")[1:2] == [SMALL_MARK]:
+        words = words._replace(sections=[one._replace(lines=[*one.lines, OF_SMALL]) if one.title == TITLE else one for one in words.sections])
     is_passing = passes(judged.report, asked.weak)
     why = unjudged(asked, hidden, known) if is_passing else ""
     if why:

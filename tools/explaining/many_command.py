@@ -149,7 +149,7 @@ def together(rows: list) -> list:
     return [(same[0], len(same) - 1) for same in found.values()]
 
 
-VERDICT_THERE = "`verdict` and `k` are of the whole trace, `verdict there` is of its lines up to `fails at`. Where they differ, begin with `verdict there`"
+FIRST_VERDICT = "`first verdict` is that of the lines up to `fails at`; `verdict` and `k` are of the whole trace. Where they differ, begin with the first"
 
 
 def first_fault_of(row: Row) -> str:
@@ -165,7 +165,7 @@ def print_table(rows: list, listed: list, is_weak: bool) -> None:
                ("k", [str(row.k or "-") for row, _ in rows_told])]
     columns += [("weak", [HOLDS[(row.report or {}).get("weak")] for row, _ in rows_told])] if is_weak else []
     columns += [("fails at", [str(row.fails_at or "-") for row, _ in rows_told])]
-    columns += [("verdict there", [first_fault_of(row) for row, _ in rows_told])] if any(row.first_fault for row, _ in rows_told) else []
+    columns += [("first verdict", [first_fault_of(row) for row, _ in rows_told])] if any(row.first_fault for row, _ in rows_told) else []
     columns += [("lines", [str(row.lines) for row, _ in rows_told]), ("seconds", [f"{row.seconds:.3f}" for row, _ in rows_told])]
     for head, told in (("similar", [more for _, more in rows_told]), ("warnings", [len(row.warnings or []) for row, _ in rows_told])):
         columns += [(head, list(map(str, told)))] if any(told) else []
@@ -184,7 +184,7 @@ def print_table(rows: list, listed: list, is_weak: bool) -> None:
     is_other = any(row.first_fault for row, _ in rows_told)
     print(f"{len(rows)} trace{'' if len(rows) == 1 else 's'}: {told}{unlisted}")
     if is_other:
-        print(VERDICT_THERE)
+        print(FIRST_VERDICT)
 
 
 def object_of(row: Row) -> dict:
