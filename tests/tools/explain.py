@@ -1044,7 +1044,11 @@ def paragraph(said: str, title: str) -> str:
 
 
 NOT_JUDGED = "domepeeler-explain: nothing was judged, since {} of the trace can't be read"
-OWN_MESSAGE = "  `domepeeler verdict` says: "
+
+
+def called(fault: str) -> str:
+    """The words on how the page of the formats calls a fault."""
+    return f"  {ROOT / 'docs' / 'formats.md'} calls this fault `{re.search('line [0-9]+: ([a-z ]+)', fault)[1].strip()}`"
 
 
 def faults(tally: Tally, program: str, folder: str) -> None:
@@ -1052,7 +1056,7 @@ def faults(tally: Tally, program: str, folder: str) -> None:
         got = explain(program, ["-"], trace)
         lines = got.err.decode().splitlines()
         own = run(program, ["verdict", "-"], trace).err.decode().rstrip("\n")
-        tally.check(f"fault: {fault}", own.endswith(f": {fault}") and lines[0] == NOT_JUDGED.format(fault.partition(":")[0]) and lines[-1] == OWN_MESSAGE + own, lines)
+        tally.check(f"fault: {fault}", own.endswith(f": {fault}") and lines[0] == NOT_JUDGED.format(fault.partition(":")[0]) and lines[-1] == called(fault), lines)
         tally.check(f"fault: {fault}, {said}", said in [line.strip() for line in lines], lines)
         tally.check(f"fault: {fault}, status", got.status == 2 and not got.out, got)
     missing = f"{folder}/missing"
@@ -1076,7 +1080,7 @@ def millions_of_names(tally: Tally, program: str, folder: str) -> None:
         got, seconds, megabytes = used([EXPLAIN, "--program", program, str(path)])
         own, shown, what, *_ = got.err.decode().splitlines()
         front, size = f"{begin} a a", len(begin) + 2 * NAMES + len(end)
-        tally.check(f"millions of names: {said}", got.status == 2 and not got.out and own == NOT_JUDGED.format("line 3") and got.err.endswith(f"\n{OWN_MESSAGE}finder: line 3: shape\n".encode()) and what == f"  {said}"
+        tally.check(f"millions of names: {said}", got.status == 2 and not got.out and own == NOT_JUDGED.format("line 3") and got.err.endswith(f"\n{called('line 3: shape')}\n".encode()) and what == f"  {said}"
                     and shown.startswith(f"  line 3 is: {front[:40]}") and shown.endswith(f".. ({size} bytes)"), (own, shown[-100:], what))
         tally.check(f"millions of names: {said}, in little time and memory", seconds < MOST_SECONDS and megabytes < MOST_MEGABYTES,
                     (seconds, megabytes))
@@ -1801,8 +1805,8 @@ FIRST_TOLD = {
     "two inserts, of which the earlier one and a third stand in two orders": ("", 2, "0 ins a 0 : a|1 ins b 0 : b|0 recv 1 1|0 ins c 1 : b c a|1 recv 0 1|1 recv 0 2|1 read : a b c",
         "When replica 0 inserted [c] (0.2, line 6), it had [a] already, and put [c] before it. That order must hold everywhere, but 1.2 (line 9) shows [c] behind [a]. Look at the message that replica 0 made for that "
         "insert, and at where replica 1 placed it in line 8. Often the clock that decides between inserts does not advance when changes arrive, or advances past only the first element of a paste; or the neighbour is not "
-        "found; or elements are stored in runs (blocks of several), and a run is split at a wrong offset. These two responses show a and b in two orders too; these were inserted without knowing of each other. If a was put on the "
-        "wrong side of b, the place of [c] may be right: so look also at where replica 1 placed a in line 7."),
+        "found; or elements are stored in runs (blocks of several), and a run is split at a wrong offset. In these two responses a and b stand in two orders too, and a and b were inserted without knowing of each other. If a is the "
+        "misplaced one, [c] beside it may be right: so look also at where replica 1 placed a in line 7."),
     "identifiers where an author is alone": ("identifiers", 2, f"{BESIDE_DELETED}|0 recv 1 2|0 read : c d", "Print the position identifiers of"),
 }
 
@@ -2105,7 +2109,7 @@ def files(tally: Tally, program: str, folder: str) -> None:
     for text, said in NO_TRACES:
         got = explain(program, ["-"], text)
         lines = got.err.decode().splitlines()
-        tally.check(f"file {text[:9]}: {said}", got.status == 2 and lines[0] == NOT_JUDGED.format("line 1") and lines[-1].startswith(f"{OWN_MESSAGE}finder: line 1: ") and lines[1].strip() == said, got)
+        tally.check(f"file {text[:9]}: {said}", got.status == 2 and lines[0] == NOT_JUDGED.format("line 1") and lines[-1].startswith(called("line 1: shape").partition("`")[0]) and lines[1].strip() == said, got)
     got = explain(program, ["-"], MENDED[0][1]).err.decode()
     tally.check("standard input: what mends it", "\n  this mends it: tr -d '\\r' < FILE > mended.trace\n" in got, got)
 
@@ -2182,7 +2186,7 @@ def contradicted(tally: Tally, folder: str) -> None:
     for status in 0, 1, 2:
         liar.write_text(f"#!/bin/sh\ncat > /dev/null\necho 'finder: line 3: shape' >&2\nexit {status}\n")
         got = explain(str(liar), ["-"], trace)
-        tally.check(f"no report, and status {status}", got.status == (status or 2) and not got.out and got.err.startswith(NOT_JUDGED.format("line 3").encode() + b"\n") and got.err.endswith(f"\n{OWN_MESSAGE}finder: line 3: shape\n".encode()), got)
+        tally.check(f"no report, and status {status}", got.status == (status or 2) and not got.out and got.err.startswith(NOT_JUDGED.format("line 3").encode() + b"\n") and got.err.endswith(f"\n{called('line 3: shape')}\n".encode()), got)
     for lie in {"verdict": "accepted"}, {"verdict": "accepted", "operations": 3, "order": ["a", "b"]}:
         liar.write_text(f"#!/bin/sh\ncat > /dev/null\necho '{json.dumps(lie)}'\n")
         told = f"domepeeler-explain: {liar} printed a report that is not on this trace: is it domepeeler?\n"
@@ -2549,7 +2553,7 @@ def kept_more(tally: Tally) -> None:
     tally.check("small: none", smallest(evidence, lambda trace: None) is None)
 
 
-OF_SMALL = "\n  These are the steps of the small trace: repeat those. In the session itself, stop as the whole trace's explanation says.\n"
+OF_SMALL = "\n  Both numbers are of the small trace, and serve where you repeat that. In the session itself, stop where the explanation of the whole trace says.\n"
 
 
 def together(tally: Tally, program: str, folder: str) -> None:
@@ -2566,7 +2570,7 @@ def together(tally: Tally, program: str, folder: str) -> None:
         if got.status != 1:
             continue
         small, of_whole = (Recording(text) for text in (path.read_text(), whole))
-        named = re.findall(r"small (\d+\.\d+) = whole (\d+\.\d+) \(line (\d+)(; here a read in its place)?\)", got.out.decode())
+        named = re.findall(r"small (\d+\.\d+) = whole (\d+\.\d+) \(line (\d+)\)(, as a read)?", got.out.decode())
         reads |= {(small.operation(name).kind, bool(told)) for name, _, _, told in named}
         tally.check(f"small: what became a read is told so: {seed}", named and all(
             int(line) == of_whole.operation(other).line and bool(told) == (small.operation(name).kind != of_whole.operation(other).kind) for name, other, line, told in named), got)

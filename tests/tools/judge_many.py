@@ -684,7 +684,7 @@ def here_and_elsewhere(tally: Tally, program: str, folder: str, other: str, want
         tally.check(f"{machines}: all traces stay here, and none there", sorted(map(str, Path(folder).rglob("*"))) == before and not left, left)
 
 
-FIRST_VERDICT = "`first verdict` is that of the lines up to `fails at`; `verdict` and `k` are of the whole trace. Where they differ, begin with the first"
+FIRST_VERDICT = "`first verdict` is that of the lines up to `fails at`; `verdict` and `k` are of the whole trace. Where they differ, begin with `first verdict`"
 
 
 def fails_at(tally: Tally, program: str, folder: str) -> None:

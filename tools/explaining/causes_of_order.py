@@ -111,8 +111,8 @@ LET_OUT = (" [{old}] arrived at replica {replica} together with others, with no 
            "whether a released change does all that others do, such as advancing the clock.")
 SEEN = ("When replica {author} inserted [{new}] ({later}, line {line}), it had [{old}] already{since}, and put [{new}] {side} it. That order must hold everywhere, but {operation} "
         "shows [{new}] {other_side} [{old}]. {look}.{numbers}{let_out}")
-TURNED_TOO = (" These two responses show {old} and {other} in two orders too; these were inserted without knowing of each other. If {old} was put on the wrong side of {other}, the place of [{new}] "
-              "may be right: so look also at where replica {replica} placed {which} in line {line}.")
+TURNED_TOO = (" In these two responses {old} and {other} stand in two orders too, and {old} and {other} were inserted without knowing of each other. If {old} is the misplaced one, [{new}] beside it may "
+              "be right: so look also at where replica {replica} placed {which} in line {line}.")
 MOST_ROUND = 8  # elements of a list on either side of a place
 OF_AUTHOR_OR_PLACE = "Look at the message that replica {author} made for that insert, and at where replica {replica} placed it{arrived}"
 BETWEEN_THE_TWO = "Look at what replica {author} did between the two responses"

@@ -161,8 +161,9 @@ def may_be_of_one_call(before: Operation | Receipt, entry: Operation | Receipt) 
 def doing(entry: Operation | Receipt) -> str:
     """What the replica is about to do."""
     if isinstance(entry, Receipt):
-        news = {"read": "receives {} (a read) and what comes with it", "view": "receives {} (a view) and what comes with it"}.get(entry.seen.kind, "applies {}")
-        return f"replica {entry.replica} {news.format(entry.seen.name)}"
+        if entry.seen.element:
+            return f"replica {entry.replica} applies {entry.seen.name}"
+        return f"replica {entry.replica} applies what replica {entry.seen.replica} had by {entry.seen.name}"
     what = {"ins": f"inserts {entry.element}", "del": f"deletes {entry.element}", "read": "reads the list",
             "view": "shows a part of the list"}
     return f"replica {entry.replica} {what[entry.kind]}"

@@ -18,7 +18,7 @@ from .files import MOST_BYTES, NO_SIDE, SIDE, SMALL_MARK, Side, Unread, name_bes
 from .kinds import ABOUT_KIND, HINT, KINDS, NoKind, hangs_on_kind, kind_asked
 from .page import page_of
 from .places import Beside, beside, placed_warnings, with_places
-from .programs import WAYS, WEAK_ALONE, Judged, NoProgram, find_program, is_weak_alone, judge, passes, report_of, report_text
+from .programs import GUIDE, WAYS, WEAK_ALONE, Judged, NoProgram, find_program, is_weak_alone, judge, passes, report_of, report_text
 from .recordings import FIRST_ENTRY, Recording
 from .small import smallest
 from .warnings import NOTHING, Warnings, warnings_of
@@ -32,8 +32,8 @@ STATUSES = ("It ends with the program's status: 0 accepted, 1 any other verdict,
             f"{SIDE} says that it is not what was saved, or lacks what a refused call says: not all was judged.")
 
 NOT_JUDGED = "nothing was judged, since line {line} of the trace can't be read"
-OWN_MESSAGE = "`domepeeler verdict` says:"
-OF_SMALL = "These are the steps of the small trace: repeat those. In the session itself, stop as the whole trace's explanation says."
+CALLED = f"{GUIDE.with_name('formats.md')} calls this fault `{{cause}}`"
+OF_SMALL = "Both numbers are of the small trace, and serve where you repeat that. In the session itself, stop where the explanation of the whole trace says."
 
 
 def words_asked() -> argparse.Namespace:
@@ -110,11 +110,11 @@ def shown_lines(text: str) -> str:
 
 
 def say_fault(judged: Judged, trace: bytes, name: str) -> None:
-    """That nothing was judged, the program's own line, and what it means."""
+    """That nothing was judged, and what the program's own line means; that line alone, where it names none of the trace."""
     about = about_fault(judged.error, trace, name)
     found = CAUSE.search(judged.error)
     own = shown_lines(judged.error)
-    told = [f"{NAME}: {NOT_JUDGED.format(line=found[1])}", *about, f"{OWN_MESSAGE} {own}"] if about and found else [own]
+    told = [f"{NAME}: {NOT_JUDGED.format(line=found[1])}", *about, CALLED.format(cause=found[2].strip())] if about and found else [own]
     print("\n  ".join(told), file=sys.stderr)
 
 
@@ -134,7 +134,7 @@ def write_small(path: str, evidence: Evidence, told: Evidence, program: str, kno
     print(f"\n{shown(path)} {same_as(evidence, told)} in {len(lines)} lines instead of {len(evidence.recording.lines)}. It keeps only what the verdict needs. What causes the bug may be among "
           "what was left out: if you repeat these steps, your editor may answer differently. Its operations, and those of the whole trace:")
     made = Recording(small.text)
-    named = [f"small {name} = whole {operation.name} (line {operation.line}{'; here a read in its place' if made.operation(name).kind != operation.kind else ''})" for name, operation in small.operations]
+    named = [f"small {name} = whole {operation.name} (line {operation.line}){', as a read' if made.operation(name).kind != operation.kind else ''}" for name, operation in small.operations]
     print("  " + "; ".join(named[:MOST_TOLD]) + (f"; and {len(named) - MOST_TOLD} more" if len(named) > MOST_TOLD else ""))
 
 
