@@ -1762,7 +1762,7 @@ FIRST_TOLD = {
         "Replica 0 showed its own changes in 0.2 (line 4), and shows them no more: the insert of a by 0.1 (line 3) and the insert of b by 0.2 (line 4). Since then it received the insert of c by 1.2 "
         "(line 7). Was the replica's list replaced by a state from elsewhere"),
     "a place from before what came": ("neighbours", 2, "0 ins a 0 : a|0 ins b 1 : a b|0 ins c 2 : a b c|0 ins d 3 : a b c d|1 recv 0 4|1 del a : b c d|0 recv 1 1|0 ins e 2 : b e c d",
-        "[e] stands where position 2 was earlier, in 0.4 (line 6), which answered a b c d. After that came the delete of a by 1.1 (in line 9). Does the editor still use something from before that (a place, an offset, an index, a copy of the list)? Every kind of change that arrives must update it."),
+        "In 0.4 (line 6) position 2 lay directly before c, where [e] stands now. After that came the delete of a by 1.1 (in line 9). Does the editor still use something from before that (a place, an offset, an index, a copy of the list)? Every kind of change that arrives must update it."),
     "an order that a delete hides": ("neighbours", 3, "0 ins n 0 : n|1 ins o 0 : o|2 recv 0 1|2 recv 1 1|2 read : n o|2 ins l 1 : n l o|0 del n :|0 recv 1 1|0 read : o|0 recv 2 2|0 read : o l",
         "[l] was put directly behind n (0.1 (line 3)), and n and [o] were inserted at the front without knowing of each other. n is deleted at replica 0, which never showed n and [o] together: perhaps it still keeps n, but on the other side of [o] than replica 2 has it. Then "
         "[l], put rightly beside n, stands there too. So look first at where these concurrent inserts were put when they arrived: n in line 5 (replica 2), o in line 6 (replica 2) and o in line 10 (replica 0)."),
@@ -1806,7 +1806,7 @@ FIRST_TOLD = {
         "When replica 0 inserted [c] (0.2, line 6), it had [a] already, and put [c] before it. That order must hold everywhere, but 1.2 (line 9) shows [c] behind [a]. Look at the message that replica 0 made for that "
         "insert, and at where replica 1 placed it in line 8. Often the clock that decides between inserts does not advance when changes arrive, or advances past only the first element of a paste; or the neighbour is not "
         "found; or elements are stored in runs (blocks of several), and a run is split at a wrong offset. In these two responses a and b stand in two orders too, and a and b were inserted without knowing of each other. If a is the "
-        "misplaced one, [c] beside it may be right: so look also at where replica 1 placed a in line 7."),
+        "misplaced one, [c] may stand rightly: so look also at where replica 1 placed a in line 7."),
     "identifiers where an author is alone": ("identifiers", 2, f"{BESIDE_DELETED}|0 recv 1 2|0 read : c d", "Print the position identifiers of"),
 }
 
@@ -1857,6 +1857,10 @@ def first_told(tally: Tally, program: str, folder: str) -> None:
     told = explain(program, [str(path)]).out.decode()
     tally.check("first told: of what was lost at two replicas, one is looked at first", re.search(
         r"\nWhere to look\n  Look first at whether 1\.3 was lost on its way to replica 0: .*\n  Look also at whether 0\.3 \(line 5\) was lost on its way to replica 1, ", told) is not None, told)
+    path.write_text(text_of(2, "0 ins a 0 : a|0 ins b 1 : a b|0 ins c 2 : a b c|1 recv 0 3|1 ins x 0 : x a b c|1 del c : x a b|0 recv 1 2|0 ins e 2 : x a b e"))
+    told = explain(program, [str(path)]).out.decode()
+    tally.check("first told: a place behind what stood there before", "\n  In 0.3 (line 5) position 2 lay directly behind b, where [e] stands now. After that came the insert of x by 1.1 (in line 9) "
+                "and the delete of c by 1.2 (in line 9). Does the editor" in told, told)
     counted_twice = "Before that, a was deleted at replica 0 more than once: by 0.4 (line 9), and by 1.2, which came in line 10. If the editor counts how many elements it shows"
     begun = "0 ins a 0 : a|0 ins b 1 : a b|0 ins c 2 : a b c|1 recv 0 3|1 read : a b c|1 del a : b c|0 del a : b c|0 recv 1 2|0 read : b c"
     for kind in "", "tree", "positions":
@@ -2553,7 +2557,7 @@ def kept_more(tally: Tally) -> None:
     tally.check("small: none", smallest(evidence, lambda trace: None) is None)
 
 
-OF_SMALL = "\n  Both numbers are of the small trace, and serve where you repeat that. In the session itself, stop where the explanation of the whole trace says.\n"
+OF_SMALL = "\n  These line numbers are of the small trace. In the session itself, stop where the explanation of the whole trace says.\n"
 
 
 def together(tally: Tally, program: str, folder: str) -> None:
@@ -2570,10 +2574,10 @@ def together(tally: Tally, program: str, folder: str) -> None:
         if got.status != 1:
             continue
         small, of_whole = (Recording(text) for text in (path.read_text(), whole))
-        named = re.findall(r"small (\d+\.\d+) = whole (\d+\.\d+) \(line (\d+)\)(, as a read)?", got.out.decode())
-        reads |= {(small.operation(name).kind, bool(told)) for name, _, _, told in named}
+        named = re.findall(r"small (\d+\.\d+)(, now a read)? = whole (\d+\.\d+) \(line (\d+)\)", got.out.decode())
+        reads |= {(small.operation(name).kind, bool(told)) for name, told, _, _ in named}
         tally.check(f"small: what became a read is told so: {seed}", named and all(
-            int(line) == of_whole.operation(other).line and bool(told) == (small.operation(name).kind != of_whole.operation(other).kind) for name, other, line, told in named), got)
+            int(line) == of_whole.operation(other).line and bool(told) == (small.operation(name).kind != of_whole.operation(other).kind) for name, told, other, line in named), got)
         again = explain(program, [str(path)]).out.decode()
         tally.check(f"small: where to stop is of its own steps: {seed}", OF_SMALL in again and OF_SMALL not in got.out.decode(), again)
     tally.check("small: some became reads, and others not", {("read", True), ("ins", False)} <= reads, reads)

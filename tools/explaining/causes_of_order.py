@@ -40,8 +40,8 @@ NUMBERS_TREE = ("Look at where a new child is put: {element} stands behind {pass
                 "{causes}ids are compared as text).")
 KEPT_PLACE = ("{came} came to replica {replica} in line {line}, beside {own}, which the replica had inserted earlier, by {insert}. Does the editor keep a position, or a range, from its last "
               "insert? Then a change that arrives must update it.")
-STALE = ("[{element}] stands where position {at} was earlier, in {before}, which answered {shown}. After that came {came}. Does the editor still use something from before that (a place, an "
-         "offset, an index, a copy of the list)? Every kind of change that arrives must update it.")
+STALE = ("In {before} position {at} lay {where}, where [{element}] stands now. After that came {came}. Does the editor still use something from before that (a place, an offset, an index, a copy of the "
+         "list)? Every kind of change that arrives must update it.")
 CLOCK = {True: "the clock does not advance with each insert; ", False: "the clock does not advance when changes arrive, or when one that was held back is applied; the replica's number is compared before the clock; "}
 BESIDE_DELETED = ("If inserts find their place by a neighbour, look at inserts beside deleted elements: {which}. If replicas throw "
                   "deleted elements away, nothing says then where the insert belongs; if they keep them, the search for its place must treat them like "
@@ -54,7 +54,7 @@ HIDDEN_BESIDE = "{element} was put beside {gone}, which {were} deleted before {o
 SEVERAL_DELETED = ("Look at positions beside deleted elements: any {fewer} of {named} fit together, but not all {k}; perhaps an insert lost its place "
                    "because its neighbour was deleted meanwhile. {next}")
 NEXT = "Look first at where replica {replica} placed {element} in line {line}: it belongs beside {gone}, which had been deleted there."
-NO_NEXT = "Which elements each response no longer has stands above, under *The elements*."
+NO_NEXT = "*The elements*, above, tells of each of these responses which elements it no longer has."
 SEVERAL_APART = ("Look at how a replica orders elements when it has only some of them: any {fewer} of {named} fit together, but not all {k}. The elements that some of "
                  "these responses lack had not arrived there yet; they were not deleted. Often the rule that orders concurrent inserts is not the same everywhere.")
 WEAK_ALONE_HOLDS = ("An editor whose server orders all changes, as Jupiter's does, promises only the weak list specification, which holds here. If yours is such an editor, nothing is wrong here: "
@@ -111,9 +111,8 @@ LET_OUT = (" [{old}] arrived at replica {replica} together with others, with no 
            "whether a released change does all that others do, such as advancing the clock.")
 SEEN = ("When replica {author} inserted [{new}] ({later}, line {line}), it had [{old}] already{since}, and put [{new}] {side} it. That order must hold everywhere, but {operation} "
         "shows [{new}] {other_side} [{old}]. {look}.{numbers}{let_out}")
-TURNED_TOO = (" In these two responses {old} and {other} stand in two orders too, and {old} and {other} were inserted without knowing of each other. If {old} is the misplaced one, [{new}] beside it may "
-              "be right: so look also at where replica {replica} placed {which} in line {line}.")
-MOST_ROUND = 8  # elements of a list on either side of a place
+TURNED_TOO = (" In these two responses {old} and {other} stand in two orders too, and {old} and {other} were inserted without knowing of each other. If {old} is the misplaced one, [{new}] may "
+              "stand rightly: so look also at where replica {replica} placed {which} in line {line}.")
 OF_AUTHOR_OR_PLACE = "Look at the message that replica {author} made for that insert, and at where replica {replica} placed it{arrived}"
 BETWEEN_THE_TWO = "Look at what replica {author} did between the two responses"
 SEEN_IN_CYCLE = ("When replica {author} inserted [{new}] ({later}, line {line}), it had [{old}] already{since}, and put [{new}] {side} it: look at whether the message for that insert says so too, "
@@ -177,20 +176,18 @@ def kept_place(evidence: Evidence) -> list:
     return [Cause("kept place", KEPT_PLACE.format(came=name, replica=receipt.replica, line=receipt.line, own=last.element, insert=at(last)))]
 
 
-def shortened(names: tuple, place: int) -> str:
-    """A list, cut where it is long, round a place."""
-    first, last = max(place - MOST_ROUND, 0), min(place + MOST_ROUND, len(names))
-    return " ".join([*([".."] if first else []), *names[first:last], *([".."] if last < len(names) else [])])
-
-
 def stale_place(evidence: Evidence) -> list:
     """Of a wrong position, that it led to the same place in a list that the replica showed before others' changes came."""
     if evidence.stale_place is None:
         return []
     before, came = evidence.stale_place
     operation = evidence.operations[0]
+    behind = before.response[operation.at:operation.at + 1]
+    place = operation.response.index(operation.element)
+    is_before = behind and operation.response[place + 1:place + 2] == behind  # else what stands before it is the same
+    where = f"directly before {behind[0]}" if is_before else f"directly behind {before.response[operation.at - 1]}"
     news = [f"the {'insert' if change.kind == 'ins' else 'delete'} of {change.element} by {change.name} (in line {evidence.line_at(change, operation.replica)})" for change in came]
-    return [Cause("stale place", STALE.format(element=operation.element, at=operation.at, before=at(before), came=listed(news, MOST_MET), shown=shortened(before.response, operation.at)))]
+    return [Cause("stale place", STALE.format(element=operation.element, at=operation.at, before=at(before), came=listed(news, MOST_MET), where=where))]
 
 
 def beside_gone(evidence: Evidence, passed: str) -> list:
