@@ -63,7 +63,7 @@ def stop(line: int, doing: str, *others: int, together: int = 0) -> str:
     doing += f"; if nothing is wrong there, stop at {arrivals[len(others) > 1]} ({before})" if others else ""
     asked = f"if recording.lines() == {line - 1}: breakpoint()"
     where = "right before the call that reads the list" if "reads the list" in doing else "right before the call that makes the editor apply a change, local or remote"
-    or_first = f", or {together - 1}, since one call may apply lines {together} to {line} together" if together else ""
+    or_first = f", or {together - 1}, where a call begins that applies lines {together} to {line} together" if together else ""
     asked = f"if recording.lines() in ({together - 1}, {line - 1}): breakpoint()" if together else asked
     where += f". It stops when {line - 1} lines have been recorded{or_first}."
     return f"|In a debugger|stop before line {line} of the trace, where {doing}.|In Python, put the next line {where}|{asked}"
@@ -413,7 +413,7 @@ WORDS = [
     ("a delete that meets an insert and a delete which did not know each other", 2, "0 ins a 0 : a|0 ins b 1 : a b|0 ins c 2 : a b c|1 recv 0 3|"
      "1 read : a b c|0 del a : b c|1 ins d 3 : a b c d|0 recv 1 2|0 read : b c d|1 del c : a b d|0 recv 1 3|0 read : b c",
      "It looks as if 1.3 (line 12), applied at replica 0, deleted d instead of c: look at how a replica that applies a delete finds the element, and at whether the recorder "
-     "writes the name of the element that was really deleted.|If the editor sends positions, the position of 1.3 was perhaps not adjusted for the delete of a by 0.4 (line 8), which the author of 1.3 had not seen. Or perhaps d was put at a wrong place before that, when 1.2 came to replica 0 in line 10: its author had not seen the delete of a by 0.4 (line 8)." + stop(13, "replica 0 applies 1.3")),
+     "writes the name of the element that was really deleted.|If the editor sends positions, the position of 1.3 was perhaps not adjusted for the delete of a by 0.4 (line 8), which the author of 1.3 had not seen. Or perhaps d stood at a wrong place already, since 1.2 came to replica 0 in line 10: its author had not seen the delete of a by 0.4 (line 8)." + stop(13, "replica 0 applies 1.3")),
     ("a delete that takes what is deleted later", 2, "0 ins a 0 : a|0 ins b 1 : a b|1 recv 0 2|1 read : a b|1 del a : b|0 ins c 0 : c a b|0 recv 1 2|"
      "0 read : a b|0 del c : a b",
      "It looks as if 1.2 (line 7), applied at replica 0, deleted c instead of a: look at how a replica that applies a delete finds the element, and at whether the recorder "
@@ -1216,7 +1216,7 @@ def places(tally: Tally, program: str, folder: str) -> None:
     for name, wanted in FOR_TWO.items():
         got = explain(program, ["--language", name, "-"], text_of(2, "0 ins a 0 : a|0 ins b 1 : a b|1 recv 0 1|1 recv 0 2|1 read : a").encode()).out.decode()
         tally.check(f"a debugger: {name}, receipts that stand together", paragraph(got, "In a debugger").endswith(
-            f". It stops when 5 lines have been recorded, or 4, since one call may apply lines 5 to 6 together.\n    {wanted}"), got)
+            f". It stops when 5 lines have been recorded, or 4, where a call begins that applies lines 5 to 6 together.\n    {wanted}"), got)
     undelivered(tally, program, folder)
     path.write_text(text_of(2, PLACED))
     for beside, wanted in NOTES:
@@ -1762,7 +1762,7 @@ FIRST_TOLD = {
         "Replica 0 showed its own changes in 0.2 (line 4), and shows them no more: the insert of a by 0.1 (line 3) and the insert of b by 0.2 (line 4). Since then it received the insert of c by 1.2 "
         "(line 7). Was the replica's list replaced by a state from elsewhere"),
     "a place from before what came": ("neighbours", 2, "0 ins a 0 : a|0 ins b 1 : a b|0 ins c 2 : a b c|0 ins d 3 : a b c d|1 recv 0 4|1 del a : b c d|0 recv 1 1|0 ins e 2 : b e c d",
-        "In 0.4 (line 6) position 2 lay directly before c, where [e] stands now. After that came the delete of a by 1.1 (in line 9). Does the editor still use something from before that (a place, an offset, an index, a copy of the list)? Every kind of change that arrives must update it."),
+        "[e] stands directly before c. That was position 2 in an older list, in 0.4 (line 6). After that came the delete of a by 1.1 (in line 9). Does the editor still use something from before that (a place, an offset, an index, a copy of the list)? Every kind of change that arrives must update it."),
     "an order that a delete hides": ("neighbours", 3, "0 ins n 0 : n|1 ins o 0 : o|2 recv 0 1|2 recv 1 1|2 read : n o|2 ins l 1 : n l o|0 del n :|0 recv 1 1|0 read : o|0 recv 2 2|0 read : o l",
         "[l] was put directly behind n (0.1 (line 3)), and n and [o] were inserted at the front without knowing of each other. n is deleted at replica 0, which never showed n and [o] together: perhaps it still keeps n, but on the other side of [o] than replica 2 has it. Then "
         "[l], put rightly beside n, stands there too. So look first at where these concurrent inserts were put when they arrived: n in line 5 (replica 2), o in line 6 (replica 2) and o in line 10 (replica 0)."),
@@ -1859,7 +1859,7 @@ def first_told(tally: Tally, program: str, folder: str) -> None:
         r"\nWhere to look\n  Look first at whether 1\.3 was lost on its way to replica 0: .*\n  Look also at whether 0\.3 \(line 5\) was lost on its way to replica 1, ", told) is not None, told)
     path.write_text(text_of(2, "0 ins a 0 : a|0 ins b 1 : a b|0 ins c 2 : a b c|1 recv 0 3|1 ins x 0 : x a b c|1 del c : x a b|0 recv 1 2|0 ins e 2 : x a b e"))
     told = explain(program, [str(path)]).out.decode()
-    tally.check("first told: a place behind what stood there before", "\n  In 0.3 (line 5) position 2 lay directly behind b, where [e] stands now. After that came the insert of x by 1.1 (in line 9) "
+    tally.check("first told: a place behind what stood there before", "\n  [e] stands directly behind b. That was position 2 in an older list, in 0.3 (line 5). After that came the insert of x by 1.1 (in line 9) "
                 "and the delete of c by 1.2 (in line 9). Does the editor" in told, told)
     counted_twice = "Before that, a was deleted at replica 0 more than once: by 0.4 (line 9), and by 1.2, which came in line 10. If the editor counts how many elements it shows"
     begun = "0 ins a 0 : a|0 ins b 1 : a b|0 ins c 2 : a b c|1 recv 0 3|1 read : a b c|1 del a : b c|0 del a : b c|0 recv 1 2|0 read : b c"
@@ -2592,7 +2592,7 @@ def weak(tally: Tally, program: str, folder: str) -> None:
         b"When it showed", b"When strong came to fail").replace(b"Where to look\n", b"Where to look, should the strong one hold too\n"), b"")))
     later = explain(program, ["--weak", "-"], text_of(4, "1 ins x 0 : x|2 recv 1 1|3 recv 1 1|2 ins a 0 : a x|3 ins b 1 : x b|1 del x :|1 recv 2 1|1 recv 3 1|1 read : b a|0 recv 1 3|"
         "0 ins X 2 : b a X|2 recv 0 1|2 ins A 2 : b a A X|3 recv 0 1|3 ins B 3 : b a X B|0 del X : b a|0 recv 2 2|0 recv 3 2|0 read : b a B A").encode()).out.decode()
-    tally.check("weak: the first lines in which strong fails", later.startswith(f"weak holds, strong doesn't, with two warnings{ALONE[26:]}refused 3: ") and " Up to line 10 it holds; all below is about lines 1 to 11." in later
+    tally.check("weak: the first lines in which strong fails", later.startswith(f"weak holds, strong doesn't, with two warnings{ALONE[26:]}refused 3: ") and " Strong holds up to line 10; all below is about lines 1 to 11." in later
                 and "start with it" not in later, later)
     tally.check("weak: not asked for", without.status == 1 and without.out.startswith(b"refused 3: "), without)
     got = explain(program, ["--weak", "-"], text_of(3, THREE_WAY).encode())

@@ -385,18 +385,18 @@ TIED = "0 ins a 0 : a|1 ins b 0 : b|0 recv 1 1|0 read : a b|1 recv 0 1|1 read :"
 IN_TURN = "0 ins a 0 : a|1 recv 0 1|1 ins b 1 : a b|0 recv 1 1|0 read : a b|1 read : a b|0 ins c 2 : a b c|1 recv 0 3|1 read : a b c"
 IN_COMMON = {
     "deleted twice": ([(5, BEGUN_TWICE)], [(2, RIGHT_TWICE), (10, RIGHT_ONCE)], [
-        "  a delete arrived whose element was deleted there already: before all 5 wrong lists, and in 2 sessions that pass",
-        "  a change arrived whose author had not seen one of the receiver's own changes: before all 5 wrong lists, and in 2 sessions that pass"]),
+        "  a delete arrived whose element was deleted there already: this came before the wrong list in all 5, and in 2 sessions that pass",
+        "  a change arrived whose author had not seen one of the receiver's own changes: this came before the wrong list in all 5, and in 2 sessions that pass"]),
     # Of 48 correct lists 12 come so: one in each failing session, two in each of the four that pass.
     "at one place": ([(4, f"{TIED} b a")], [(4, f"{TIED} a b"), (4, IN_TURN)], [
-        "  an insert arrived at a place where an element stood that the insert's author had not seen: just before all 4 wrong lists, and just before 25 % of the correct ones",
-        "  a change arrived whose author had not seen one of the receiver's own changes: just before all 4 wrong lists, and just before 25 % of the correct ones",
+        "  an insert arrived at a place where an element stood that the insert's author had not seen: this came just before the wrong list in all 4, and just before 25 % of the correct lists",
+        "  a change arrived whose author had not seen one of the receiver's own changes: this came just before the wrong list in all 4, and just before 25 % of the correct lists",
         "  Up to where they fail, 4 of the 4 have no deletes: so the bug does not need these."]),
     "none that pass, and few lists": ([(3, BEGUN_ONCE)], [], []),
     # Of 24 correct lists 8 come so.
     "none that pass": ([(8, f"{TIED} b a")], [], [
-        "  an insert arrived at a place where an element stood that the insert's author had not seen: just before all 8 wrong lists, and just before 33 % of the correct ones",
-        "  a change arrived whose author had not seen one of the receiver's own changes: just before all 8 wrong lists, and just before 33 % of the correct ones",
+        "  an insert arrived at a place where an element stood that the insert's author had not seen: this came just before the wrong list in all 8, and just before 33 % of the correct lists",
+        "  a change arrived whose author had not seen one of the receiver's own changes: this came just before the wrong list in all 8, and just before 33 % of the correct lists",
         "  Up to where they fail, 8 of the 8 have no deletes: so the bug does not need these."]),
     "too few": ([(2, BEGUN_TWICE)], [(10, RIGHT_ONCE)], []),
     "nothing stands out": ([(3, BEGUN_TWICE)], [(9, RIGHT_TWICE)], []),
@@ -444,7 +444,7 @@ def what_is_common(tally: Tally, program: str, folder: str) -> None:
     for seed in range(100):
         Path(folder, "unmoved", f"{seed}.trace").write_text(planted.session("unmoved", seed).text())
     done = subprocess.run([TOOL, "--program", program, "--weak", "--failing", f"{folder}/unmoved"], capture_output=True, text=True)
-    shown = [line for line in page if line.startswith("What 83 failures") or ": just before 64" in line]
+    shown = [line for line in page if line.startswith("What 83 failures") or ": this came just before the wrong list in 64" in line]
     tally.check("in common: as the page shows it", len(shown) == 2 and done.stdout.rpartition("\n  To see why one fails: ")[0].endswith("\n\n" + "\n".join(line.partition("\n\n")[0] for line in shown)), (shown, done))
     Path(folder, "twice", "0.trace").unlink()
     row = rows.Row(f"{folder}/twice/0.trace", "contents", None, 9, 0.0, 1, None, "", fails_at=9)
@@ -541,7 +541,7 @@ def situations(tally: Tally, program: str, folder: str) -> None:
             ("not of big ones", in_common.in_common([row("big.trace", fails_at=8)] * 3 + [wrong] * 57 + right_ones[:1] * 50), "What 58 of 60 failures have in common, compared with 50 sessions that pass.")):
         tally.check(f"in common: {name}", (found[0] if found else "").startswith(head) and bool(found) == bool(head), found)
     found = in_common.in_common([wrong] * 39 + [other] + right_ones[:1] * 9)
-    tally.check("in common: of most", any(line.startswith("  a delete arrived whose element was deleted there already: before 39 of the 40 wrong lists, and in no session that passes") for line in found), found)
+    tally.check("in common: of most", any(line.startswith("  a delete arrived whose element was deleted there already: this came before the wrong list in 39 of the 40, and in no session that passes") for line in found), found)
 
 
 def time_of_common(tally: Tally, program: str, folder: str) -> None:
@@ -684,7 +684,7 @@ def here_and_elsewhere(tally: Tally, program: str, folder: str, other: str, want
         tally.check(f"{machines}: all traces stay here, and none there", sorted(map(str, Path(folder).rglob("*"))) == before and not left, left)
 
 
-FIRST_VERDICT = "`first verdict` is that of the lines up to `fails at`; `verdict` and `k` are of the whole trace. Where they differ, begin with `first verdict`"
+FIRST_VERDICT = "`first verdict` is that of the lines up to `fails at`, and domepeeler-explain begins with it; `verdict` and `k` are of the whole trace"
 
 
 def fails_at(tally: Tally, program: str, folder: str) -> None:

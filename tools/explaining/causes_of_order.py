@@ -40,7 +40,7 @@ NUMBERS_TREE = ("Look at where a new child is put: {element} stands behind {pass
                 "{causes}ids are compared as text).")
 KEPT_PLACE = ("{came} came to replica {replica} in line {line}, beside {own}, which the replica had inserted earlier, by {insert}. Does the editor keep a position, or a range, from its last "
               "insert? Then a change that arrives must update it.")
-STALE = ("In {before} position {at} lay {where}, where [{element}] stands now. After that came {came}. Does the editor still use something from before that (a place, an offset, an index, a copy of the "
+STALE = ("[{element}] stands {where}. That was position {at} in an older list, in {before}. After that came {came}. Does the editor still use something from before that (a place, an offset, an index, a copy of the "
          "list)? Every kind of change that arrives must update it.")
 CLOCK = {True: "the clock does not advance with each insert; ", False: "the clock does not advance when changes arrive, or when one that was held back is applied; the replica's number is compared before the clock; "}
 BESIDE_DELETED = ("If inserts find their place by a neighbour, look at inserts beside deleted elements: {which}. If replicas throw "
@@ -52,9 +52,8 @@ OWN_PLACE = ("When replica {replica} inserted [{element}] (line {line}), {gone} 
 ARRIVED_BESIDE = "{element} came to replica {replica} in line {line}, where its {neighbours} {gone} had been deleted"
 HIDDEN_BESIDE = "{element} was put beside {gone}, which {were} deleted before {operation}"
 SEVERAL_DELETED = ("Look at positions beside deleted elements: any {fewer} of {named} fit together, but not all {k}; perhaps an insert lost its place "
-                   "because its neighbour was deleted meanwhile. {next}")
-NEXT = "Look first at where replica {replica} placed {element} in line {line}: it belongs beside {gone}, which had been deleted there."
-NO_NEXT = "*The elements*, above, tells of each of these responses which elements it no longer has."
+                   "because its neighbour was deleted meanwhile.{next}")
+NEXT = " Look first at where replica {replica} placed {element} in line {line}: it belongs beside {gone}, which had been deleted there."
 SEVERAL_APART = ("Look at how a replica orders elements when it has only some of them: any {fewer} of {named} fit together, but not all {k}. The elements that some of "
                  "these responses lack had not arrived there yet; they were not deleted. Often the rule that orders concurrent inserts is not the same everywhere.")
 WEAK_ALONE_HOLDS = ("An editor whose server orders all changes, as Jupiter's does, promises only the weak list specification, which holds here. If yours is such an editor, nothing is wrong here: "
@@ -570,7 +569,7 @@ def next_of(evidence: Evidence) -> str:
     """Where to begin among several responses: at the last insert that came where its neighbour was deleted, if one did."""
     for arrival, deletes in evidence.lost_neighbours[-1:]:
         return NEXT.format(replica=arrival.receipt.replica, element=arrival.insert.element, line=arrival.receipt.line, gone=joined([delete.element for delete in deletes]))
-    return NO_NEXT
+    return ""
 
 
 def put_at_once(evidence: Evidence) -> str:

@@ -149,7 +149,7 @@ def together(rows: list) -> list:
     return [(same[0], len(same) - 1) for same in found.values()]
 
 
-FIRST_VERDICT = "`first verdict` is that of the lines up to `fails at`; `verdict` and `k` are of the whole trace. Where they differ, begin with `first verdict`"
+FIRST_VERDICT = "`first verdict` is that of the lines up to `fails at`, and domepeeler-explain begins with it; `verdict` and `k` are of the whole trace"
 
 
 def first_fault_of(row: Row) -> str:

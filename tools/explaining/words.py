@@ -52,7 +52,7 @@ def explanation(evidence: Evidence, told: Evidence, language: str = debuggers.US
     if whole:
         more = "the same verdict, because of other responses" if is_alike else f"another verdict, {verdict_of(evidence.report)}, which is explained below"
         headline += f" This fault comes first, in lines 1 to {told.last_line}: start with it. The whole trace has {more}." if not passes else (
-            f" Up to line {told.last_line - 1} it holds; all below is about lines 1 to {told.last_line}{'' if is_alike else f'; the whole trace is {verdict_of(evidence.report)}'}.")
+            f" Strong holds up to line {told.last_line - 1}; all below is about lines 1 to {told.last_line}{'' if is_alike else f'; the whole trace is {verdict_of(evidence.report)}'}.")
     if passes:
         headline = f"{WEAK_ALONE}: this passes, since only the weak list specification is asked for. Nothing needs mending. Why the strong one fails: {headline}"
     return Explanation(headline, [*when_it_went_wrong(evidence, told, weak), *without_receipts(told), *sections, *where,
