@@ -63,7 +63,7 @@ def stop(line: int, doing: str, *others: int, together: int = 0) -> str:
     doing += f"; if nothing is wrong there, stop at {arrivals[len(others) > 1]} ({before})" if others else ""
     asked = f"if recording.lines() == {line - 1}: breakpoint()"
     where = "right before the call that reads the list" if "reads the list" in doing else "right before the call that makes the editor apply a change, local or remote"
-    or_first = f", or {together - 1}, where a call begins that applies lines {together} to {line} together" if together else ""
+    or_first = f", and when {together - 1} have, in case one call applies lines {together} to {line} together" if together else ""
     asked = f"if recording.lines() in ({together - 1}, {line - 1}): breakpoint()" if together else asked
     where += f". It stops when {line - 1} lines have been recorded{or_first}."
     return f"|In a debugger|stop before line {line} of the trace, where {doing}.|In Python, put the next line {where}|{asked}"
@@ -413,7 +413,7 @@ WORDS = [
     ("a delete that meets an insert and a delete which did not know each other", 2, "0 ins a 0 : a|0 ins b 1 : a b|0 ins c 2 : a b c|1 recv 0 3|"
      "1 read : a b c|0 del a : b c|1 ins d 3 : a b c d|0 recv 1 2|0 read : b c d|1 del c : a b d|0 recv 1 3|0 read : b c",
      "It looks as if 1.3 (line 12), applied at replica 0, deleted d instead of c: look at how a replica that applies a delete finds the element, and at whether the recorder "
-     "writes the name of the element that was really deleted.|If the editor sends positions, the position of 1.3 was perhaps not adjusted for the delete of a by 0.4 (line 8), which the author of 1.3 had not seen. Or perhaps d stood at a wrong place already, since 1.2 came to replica 0 in line 10: its author had not seen the delete of a by 0.4 (line 8)." + stop(13, "replica 0 applies 1.3")),
+     "writes the name of the element that was really deleted.|If the editor sends positions, the position of 1.3 was perhaps not adjusted for the delete of a by 0.4 (line 8), which the author of 1.3 had not seen." + stop(13, "replica 0 applies 1.3")),
     ("a delete that takes what is deleted later", 2, "0 ins a 0 : a|0 ins b 1 : a b|1 recv 0 2|1 read : a b|1 del a : b|0 ins c 0 : c a b|0 recv 1 2|"
      "0 read : a b|0 del c : a b",
      "It looks as if 1.2 (line 7), applied at replica 0, deleted c instead of a: look at how a replica that applies a delete finds the element, and at whether the recorder "
@@ -1216,7 +1216,7 @@ def places(tally: Tally, program: str, folder: str) -> None:
     for name, wanted in FOR_TWO.items():
         got = explain(program, ["--language", name, "-"], text_of(2, "0 ins a 0 : a|0 ins b 1 : a b|1 recv 0 1|1 recv 0 2|1 read : a").encode()).out.decode()
         tally.check(f"a debugger: {name}, receipts that stand together", paragraph(got, "In a debugger").endswith(
-            f". It stops when 5 lines have been recorded, or 4, where a call begins that applies lines 5 to 6 together.\n    {wanted}"), got)
+            f". It stops when 5 lines have been recorded, and when 4 have, in case one call applies lines 5 to 6 together.\n    {wanted}"), got)
     undelivered(tally, program, folder)
     path.write_text(text_of(2, PLACED))
     for beside, wanted in NOTES:
@@ -1861,6 +1861,10 @@ def first_told(tally: Tally, program: str, folder: str) -> None:
     told = explain(program, [str(path)]).out.decode()
     tally.check("first told: a place behind what stood there before", "\n  [e] stands directly behind b. That was position 2 in an older list, in 0.3 (line 5). After that came the insert of x by 1.1 (in line 9) "
                 "and the delete of c by 1.2 (in line 9). Does the editor" in told, told)
+    path.write_text(text_of(2, "0 ins a 0 : a|0 ins b 1 : a b|0 ins c 2 : a b c|1 recv 0 3|1 read : a b c|0 del a : b c|1 ins d 1 : a d b c|1 del c : a d b|0 recv 1 2|0 recv 1 3|0 read : b c"))
+    told = explain(program, [str(path)]).out.decode()
+    tally.check("first told: a delete behind an insert that nothing shows, and that a delete met", "had not seen. Or perhaps d was put at a wrong place already, in line 11, by 1.2, whose author had "
+                "not seen the delete of a by 0.4 (line 8)." in told, told)
     counted_twice = "Before that, a was deleted at replica 0 more than once: by 0.4 (line 9), and by 1.2, which came in line 10. If the editor counts how many elements it shows"
     begun = "0 ins a 0 : a|0 ins b 1 : a b|0 ins c 2 : a b c|1 recv 0 3|1 read : a b c|1 del a : b c|0 del a : b c|0 recv 1 2|0 read : b c"
     for kind in "", "tree", "positions":
@@ -2574,10 +2578,10 @@ def together(tally: Tally, program: str, folder: str) -> None:
         if got.status != 1:
             continue
         small, of_whole = (Recording(text) for text in (path.read_text(), whole))
-        named = re.findall(r"small (\d+\.\d+)(, now a read)? = whole (\d+\.\d+) \(line (\d+)\)", got.out.decode())
-        reads |= {(small.operation(name).kind, bool(told)) for name, told, _, _ in named}
+        named = re.findall(r"small (\d+\.\d+) = whole (\d+\.\d+) \(line (\d+)(; an? \w+ there, a read here)?\)", got.out.decode())
+        reads |= {(small.operation(name).kind, bool(told)) for name, _, _, told in named}
         tally.check(f"small: what became a read is told so: {seed}", named and all(
-            int(line) == of_whole.operation(other).line and bool(told) == (small.operation(name).kind != of_whole.operation(other).kind) for name, told, other, line in named), got)
+            int(line) == of_whole.operation(other).line and bool(told) == (small.operation(name).kind != of_whole.operation(other).kind) for name, other, line, told in named), got)
         again = explain(program, [str(path)]).out.decode()
         tally.check(f"small: where to stop is of its own steps: {seed}", OF_SMALL in again and OF_SMALL not in got.out.decode(), again)
     tally.check("small: some became reads, and others not", {("read", True), ("ins", False)} <= reads, reads)

@@ -72,8 +72,8 @@ NOT_SHOWN = "{element} does not stand in {before}{unknown}"
 SEVERAL_IDS = ": where it deletes several, each element has an id of its own, and these need not be consecutive"
 MOVED_DELETE = ("If the editor sends positions, the position of {delete} was perhaps not adjusted for {changes}, which the author of {delete} had "
                 "not seen{back}.{tie}")
-MOVED_BEFORE = ". Or perhaps {element} stood at a wrong place already, since {insert} came to replica {replica} in line {line}: its author had not seen the delete of {other} by {delete}"
-ONE_OF_THESE = "one of these changes"
+MOVED_BEFORE = ". Or perhaps {element} was put at a wrong place already, in line {line}, by {insert}, whose author had not seen the delete of {other} by {delete}"
+ONE_OF_THESE = "one of the changes of replica {replica} that are named above"
 UNKNOWN = ("No line inserts {names}. Perhaps the insert was not recorded, or under another name; or the document was not empty at first: then let one replica insert "
            "what was there, and the others receive it.")
 REPLACED = ("Replica {replica} showed {missing} in {before}; since then it only received {came}, and nothing that came deletes {missing}. Look at what {came_first} does there: "
@@ -362,8 +362,8 @@ def moved_delete(evidence: Evidence, delete: Operation) -> list:
             for other in others[:MOST_TOLD] if all(orders := shown_in_orders(evidence, delete.element, other, other in evidence.missing))]
     others = [other for other in sorted(others, key=lambda other: other not in evidence.missing) if not tied and not is_agreed(evidence, delete.element, other, {delete.replica, receipt.replica})]
     before = met_before(evidence.recording, delete, receipt)
-    back = MOVED_BEFORE.format(replica=receipt.replica, element=before[0].element, insert=before[0].name, line=before[1].line, other=before[2].element, delete=at(before[2])) if before else ""
-    changes = ONE_OF_THESE if is_told(evidence, receipt, unknown) else named(unknown)
+    back = MOVED_BEFORE.format(element=before[0].element, insert=before[0].name, line=before[1].line, other=before[2].element, delete=at(before[2])) if before else ""
+    changes = ONE_OF_THESE.format(replica=receipt.replica) if is_told(evidence, receipt, unknown) else named(unknown)
     return [*tied[:1], Cause("positions", MOVED_DELETE.format(delete=delete.name, changes=changes, back=back, tie=at_once(delete.element, others) if others else ""))]
 
 

@@ -138,7 +138,7 @@ def statement(recording: Recording, entry: Operation | Receipt, language: str) -
     first = first_together(recording, entry)
     then, asked = f"It stops when {entry.line - 1} lines have been recorded", words.format(entry.line - 1)
     if first < entry.line:
-        then += f", or {first - 1}, where a call begins that applies lines {first} to {entry.line} together"
+        then += f", and when {first - 1} have, in case one call applies lines {first} to {entry.line} together"
         asked = FOR_TWO[language].format(first - 1, entry.line - 1)
     return [f"In {name}, put the next line {READS if is_read else BEGINS}. {then}.", f"  {asked}"]
 
@@ -163,7 +163,7 @@ def doing(entry: Operation | Receipt) -> str:
     if isinstance(entry, Receipt):
         if entry.seen.element:
             return f"replica {entry.replica} applies {entry.seen.name}"
-        return f"replica {entry.replica} receives what replica {entry.seen.replica} had done by then"
+        return f"{entry.seen.name}, a {entry.seen.kind}, arrives at replica {entry.replica}"
     what = {"ins": f"inserts {entry.element}", "del": f"deletes {entry.element}", "read": "reads the list",
             "view": "shows a part of the list"}
     return f"replica {entry.replica} {what[entry.kind]}"

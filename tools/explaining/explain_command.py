@@ -33,6 +33,7 @@ STATUSES = ("It ends with the program's status: 0 accepted, 1 any other verdict,
 
 NOT_JUDGED = "nothing was judged, since line {line} of the trace can't be read"
 CALLED = f"{GUIDE.with_name('formats.md')} calls this fault `{{cause}}`"
+WHAT = {"ins": "an insert", "del": "a delete", "read": "a read", "view": "a view"}
 OF_SMALL = "These line numbers are of the small trace. In the session itself, stop where the explanation of the whole trace says."
 
 
@@ -134,7 +135,7 @@ def write_small(path: str, evidence: Evidence, told: Evidence, program: str, kno
     print(f"\n{shown(path)} {same_as(evidence, told)} in {len(lines)} lines instead of {len(evidence.recording.lines)}. It keeps only what the verdict needs. What causes the bug may be among "
           "what was left out: if you repeat these steps, your editor may answer differently. Its operations, and those of the whole trace:")
     made = Recording(small.text)
-    named = [f"small {name}{', now a read' if made.operation(name).kind != operation.kind else ''} = whole {operation.name} (line {operation.line})" for name, operation in small.operations]
+    named = [f"small {name} = whole {operation.name} (line {operation.line}{f'; {WHAT[operation.kind]} there, a read here' if made.operation(name).kind != operation.kind else ''})" for name, operation in small.operations]
     print("  " + "; ".join(named[:MOST_TOLD]) + (f"; and {len(named) - MOST_TOLD} more" if len(named) > MOST_TOLD else ""))
 
 

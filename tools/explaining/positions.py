@@ -35,12 +35,15 @@ def met_inserts(recording: Recording, delete: Operation, arrival: Arrival) -> li
 
 
 def met_before(recording: Recording, delete: Operation, receipt: Receipt) -> tuple | None:
-    """Of the last inserts that came to the receipt's replica before it, one whose author had not seen a delete, other than this one, that was there by then, but its element;
+    """Of the last inserts that came to the receipt's replica before it, but for those in the list that it showed last, one whose author had not seen a delete, other than this one, that was there by then, but its element;
     the receipt that brought it, and that delete."""
     had = recording.clock_before(receipt)
     there = [change for change in recording.changes() if change.n <= had[change.replica] and change is not delete]
     deletes = [(change if change.replica == receipt.replica else recording.arrival(change, receipt.replica), change) for change in there if change.kind == "del"]
+    shown = recording.shown_before(receipt)
     for insert in [change for change in there if change.kind == "ins" and change.replica != receipt.replica][:-MOST_BEFORE - 1:-1]:
+        if insert.element in shown:
+            continue  # its place there was right, or is told of by itself
         arrival = recording.arrival(insert, receipt.replica)
         other = next((other for came, other in deletes if came.line < arrival.line and not insert.has_seen(other) and any(map(insert.has_seen, recording.inserts.get(other.element, [])))), None)
         if other is not None:
