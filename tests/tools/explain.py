@@ -1762,7 +1762,7 @@ FIRST_TOLD = {
         "Replica 0 showed its own changes in 0.2 (line 4), and shows them no more: the insert of a by 0.1 (line 3) and the insert of b by 0.2 (line 4). Since then it received the insert of c by 1.2 "
         "(line 7). Was the replica's list replaced by a state from elsewhere"),
     "a place from before what came": ("neighbours", 2, "0 ins a 0 : a|0 ins b 1 : a b|0 ins c 2 : a b c|0 ins d 3 : a b c d|1 recv 0 4|1 del a : b c d|0 recv 1 1|0 ins e 2 : b e c d",
-        "[e] stands directly before c. That was position 2 in an older list, in 0.4 (line 6). After that came the delete of a by 1.1 (in line 9). Does the editor still use something from before that (a place, an offset, an index, a copy of the list)? Every kind of change that arrives must update it."),
+        "[e] stands directly before c. That place was position 2 in an older list, in 0.4 (line 6). After that came the delete of a by 1.1 (in line 9). Does the editor still use something from before that (a place, an offset, an index, a copy of the list)? Every kind of change that arrives must update it."),
     "an order that a delete hides": ("neighbours", 3, "0 ins n 0 : n|1 ins o 0 : o|2 recv 0 1|2 recv 1 1|2 read : n o|2 ins l 1 : n l o|0 del n :|0 recv 1 1|0 read : o|0 recv 2 2|0 read : o l",
         "[l] was put directly behind n (0.1 (line 3)), and n and [o] were inserted at the front without knowing of each other. n is deleted at replica 0, which never showed n and [o] together: perhaps it still keeps n, but on the other side of [o] than replica 2 has it. Then "
         "[l], put rightly beside n, stands there too. So look first at where these concurrent inserts were put when they arrived: n in line 5 (replica 2), o in line 6 (replica 2) and o in line 10 (replica 0)."),
@@ -1802,11 +1802,6 @@ FIRST_TOLD = {
     "an element too many, whose insert came twice before it was deleted": ("", 2, "0 ins a 0 : a|1 recv 0 1|1 recv 0 1|1 read : a|1 del a : a", "The replica received nothing between 1.1 (line 6) and this response"),
     "identifiers before a place that was": ("identifiers", 2, "0 ins a 0 : a|0 ins b 1 : a b|0 ins c 2 : a b c|0 ins d 3 : a b c d|1 recv 0 4|1 del a : b c d|0 recv 1 1|0 ins e 2 : b e c d",
         "Print the position identifiers of"),
-    "two inserts, of which the earlier one and a third stand in two orders": ("", 2, "0 ins a 0 : a|1 ins b 0 : b|0 recv 1 1|0 ins c 1 : b c a|1 recv 0 1|1 recv 0 2|1 read : a b c",
-        "When replica 0 inserted [c] (0.2, line 6), it had [a] already, and put [c] before it. That order must hold everywhere, but 1.2 (line 9) shows [c] behind [a]. Look at the message that replica 0 made for that "
-        "insert, and at where replica 1 placed it in line 8. Often the clock that decides between inserts does not advance when changes arrive, or advances past only the first element of a paste; or the neighbour is not "
-        "found; or elements are stored in runs (blocks of several), and a run is split at a wrong offset. In these two responses a and b stand in two orders too, and a and b were inserted without knowing of each other. If a is the "
-        "misplaced one, [c] may stand rightly: so look also at where replica 1 placed a in line 7."),
     "identifiers where an author is alone": ("identifiers", 2, f"{BESIDE_DELETED}|0 recv 1 2|0 read : c d", "Print the position identifiers of"),
 }
 
@@ -1859,12 +1854,21 @@ def first_told(tally: Tally, program: str, folder: str) -> None:
         r"\nWhere to look\n  Look first at whether 1\.3 was lost on its way to replica 0: .*\n  Look also at whether 0\.3 \(line 5\) was lost on its way to replica 1, ", told) is not None, told)
     path.write_text(text_of(2, "0 ins a 0 : a|0 ins b 1 : a b|0 ins c 2 : a b c|1 recv 0 3|1 ins x 0 : x a b c|1 del c : x a b|0 recv 1 2|0 ins e 2 : x a b e"))
     told = explain(program, [str(path)]).out.decode()
-    tally.check("first told: a place behind what stood there before", "\n  [e] stands directly behind b. That was position 2 in an older list, in 0.3 (line 5). After that came the insert of x by 1.1 (in line 9) "
+    tally.check("first told: a place behind what stood there before", "\n  [e] stands directly behind b. That place was position 2 in an older list, in 0.3 (line 5). After that came the insert of x by 1.1 (in line 9) "
                 "and the delete of c by 1.2 (in line 9). Does the editor" in told, told)
     path.write_text(text_of(2, "0 ins a 0 : a|0 ins b 1 : a b|0 ins c 2 : a b c|1 recv 0 3|1 read : a b c|0 del a : b c|1 ins d 1 : a d b c|1 del c : a d b|0 recv 1 2|0 recv 1 3|0 read : b c"))
     told = explain(program, [str(path)]).out.decode()
     tally.check("first told: a delete behind an insert that nothing shows, and that a delete met", "had not seen. Or perhaps d was put at a wrong place already, in line 11, by 1.2, whose author had "
                 "not seen the delete of a by 0.4 (line 8)." in told, told)
+    path.write_text(text_of(2, "0 ins a 0 : a|1 ins b 0 : b|0 recv 1 1|0 ins c 1 : b c a|1 recv 0 1|1 recv 0 2|1 read : a b c"))
+    told = explain(program, [str(path)]).out.decode()
+    tally.check("first told: another pair in two orders", "\n  When replica 0 inserted [c] (0.2, line 6), it had [a] already, and put [c] before it." in told and "\n  a and b stand in two orders in these two lists too; b was "
+                "inserted by 1.1 (line 4), whose author did not know a, nor the author of a b. If that is the fault, look at where replica 1 placed a in line 7.\n" in told, told)
+    for what, entries in ("shown alike", "1 read : b a c"), ("by an author who knew the other", "1 read : a b c"):
+        path.write_text(text_of(2, f"0 ins a 0 : a|1 recv 0 1|1 ins b 1 : a b|0 recv 1 1|0 ins c 0 : c a b|1 recv 0 2|{entries}" if "knew" in what else
+                                f"0 ins a 0 : a|1 ins b 0 : b|0 recv 1 1|0 ins c 1 : b c a|1 recv 0 1|1 recv 0 2|{entries}"))
+        told = explain(program, [str(path)]).out.decode()
+        tally.check(f"first told: another pair in two orders, none: {what}", told.startswith("refused 2: ") and "in two orders in these two lists too" not in told, told)
     counted_twice = "Before that, a was deleted at replica 0 more than once: by 0.4 (line 9), and by 1.2, which came in line 10. If the editor counts how many elements it shows"
     begun = "0 ins a 0 : a|0 ins b 1 : a b|0 ins c 2 : a b c|1 recv 0 3|1 read : a b c|1 del a : b c|0 del a : b c|0 recv 1 2|0 read : b c"
     for kind in "", "tree", "positions":
@@ -2561,7 +2565,7 @@ def kept_more(tally: Tally) -> None:
     tally.check("small: none", smallest(evidence, lambda trace: None) is None)
 
 
-OF_SMALL = "\n  These line numbers are of the small trace. In the session itself, stop where the explanation of the whole trace says.\n"
+OF_SMALL = "\nIn a debugger\n  These line numbers are of the small trace. In the session itself, stop where the explanation of the whole trace says.\n"
 
 
 def together(tally: Tally, program: str, folder: str) -> None:

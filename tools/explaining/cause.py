@@ -20,7 +20,7 @@ NEVER_SENT = ("Look first at whether replica {author} has sent {changes} at all:
 OTHERS_HAVE = "all other changes of replica {author} have one"
 ELSEWHERE_ONE = {True: "at another replica it has one", False: "at other replicas they have some"}
 PUT_AT_ONCE = {True: " {others} was inserted at the same place as {element} concurrently: check also that every replica puts the same one first.",
-               False: " {others} were inserted at the same place as {element} concurrently: check also that every replica puts {element} on the same side of each of them."}
+               False: " {others} were inserted at the same place as {element} concurrently: check also that each of them stands on one side of {element} at every replica."}
 OWN_ADJUSTED = ("how the replica's own changes that are still on their way are adjusted for an arriving change, and how that is adjusted for them (each for the unadjusted form of the other). If "
                 "the editor takes its own changes back and applies them again, look at how it does that.")
 EMPTIED = ("Before that, in line {line}, replica {replica} received {change}, which deletes {element}. Replica {replica} had deleted {element} itself, by {other}, so {change} had nothing left to "

@@ -40,7 +40,7 @@ NUMBERS_TREE = ("Look at where a new child is put: {element} stands behind {pass
                 "{causes}ids are compared as text).")
 KEPT_PLACE = ("{came} came to replica {replica} in line {line}, beside {own}, which the replica had inserted earlier, by {insert}. Does the editor keep a position, or a range, from its last "
               "insert? Then a change that arrives must update it.")
-STALE = ("[{element}] stands {where}. That was position {at} in an older list, in {before}. After that came {came}. Does the editor still use something from before that (a place, an offset, an index, a copy of the "
+STALE = ("[{element}] stands {where}. That place was position {at} in an older list, in {before}. After that came {came}. Does the editor still use something from before that (a place, an offset, an index, a copy of the "
          "list)? Every kind of change that arrives must update it.")
 CLOCK = {True: "the clock does not advance with each insert; ", False: "the clock does not advance when changes arrive, or when one that was held back is applied; the replica's number is compared before the clock; "}
 BESIDE_DELETED = ("If inserts find their place by a neighbour, look at inserts beside deleted elements: {which}. If replicas throw "
@@ -110,8 +110,8 @@ LET_OUT = (" [{old}] arrived at replica {replica} together with others, with no 
            "whether a released change does all that others do, such as advancing the clock.")
 SEEN = ("When replica {author} inserted [{new}] ({later}, line {line}), it had [{old}] already{since}, and put [{new}] {side} it. That order must hold everywhere, but {operation} "
         "shows [{new}] {other_side} [{old}]. {look}.{numbers}{let_out}")
-TURNED_TOO = (" In these two responses {old} and {other} stand in two orders too, and {old} and {other} were inserted without knowing of each other. If {old} is the misplaced one, [{new}] may "
-              "stand rightly: so look also at where replica {replica} placed {which} in line {line}.")
+TURNED_TOO = ("{old} and {other} stand in two orders in these two lists too; {other} was inserted by {insert}, whose author did not know {old}, nor the author of {old} {other}. If that is the fault, look at "
+              "where replica {replica} placed {which} in line {line}.")
 OF_AUTHOR_OR_PLACE = "Look at the message that replica {author} made for that insert, and at where replica {replica} placed it{arrived}"
 BETWEEN_THE_TWO = "Look at what replica {author} did between the two responses"
 SEEN_IN_CYCLE = ("When replica {author} inserted [{new}] ({later}, line {line}), it had [{old}] already{since}, and put [{new}] {side} it: look at whether the message for that insert says so too, "
@@ -332,7 +332,7 @@ def of_refusal(evidence: Evidence, weak: bool) -> list:
     later, old = (first, then) if first.has_seen(then) else (then, first)
     moved = moved_over(evidence)
     told = seen(evidence, later, old, not (weak and moved))
-    told += turned_too(evidence, later, old) or put_meanwhile(evidence, later) or put_meanwhile(evidence, old)
+    told += put_meanwhile(evidence, later) or put_meanwhile(evidence, old)
     if weak and moved and evidence.kind != POSITIONS:
         return [*turned_by_itself(evidence), *lost(evidence), *shown_alone(evidence), *reordered(evidence), Cause("seen", told), *moved_insert(moved), *beside_deleted(evidence)]
     place = later.response.index(later.element)
@@ -351,8 +351,8 @@ def of_refusal(evidence: Evidence, weak: bool) -> list:
     first_of_all = [*turned_by_itself(evidence), *lost(evidence)]
     if alone and evidence.kind == IDENTIFIERS:
         return [*first_of_all, *sorted_by, *alone]
-    return [*first_of_all, *alone, *turned, *hidden_order(evidence, later, old), *([last, *gone] if evidence.is_fine_beside_deleted or let_out(evidence, later, old) else [*gone, last]), *sorted_by,
-            *emptied(evidence), *moved_insert(moved)]
+    return [*first_of_all, *alone, *turned, *hidden_order(evidence, later, old), *([last, *gone] if evidence.is_fine_beside_deleted or let_out(evidence, later, old) else [*gone, last]),
+            *(turned_too(evidence, later, old) if last.name == "seen" else []), *sorted_by, *emptied(evidence), *moved_insert(moved)]
 
 
 def hidden_order(evidence: Evidence, later: Operation, old: Operation) -> list:
@@ -379,7 +379,7 @@ def unlike_author(evidence: Evidence, later: Operation, old: Operation) -> Opera
     return next((operation for operation in evidence.operations if [name for name in operation.response if name in names] != names), evidence.operations[0])
 
 
-def turned_too(evidence: Evidence, later: Operation, old: Operation) -> str:
+def turned_too(evidence: Evidence, later: Operation, old: Operation) -> list:
     """Where the same two responses turn round the earlier of two inserts and a third one too, neither author knowing of the other's, and one of them came to the replica that shows it otherwise."""
     unlike = unlike_author(evidence, later, old)
     one, two = [operation.response for operation in evidence.operations[:2]]
@@ -388,8 +388,9 @@ def turned_too(evidence: Evidence, later: Operation, old: Operation) -> str:
         is_turned = (one.index(old.element) < one.index(name)) != (two.index(old.element) < two.index(name))
         came = [change for change in (old, insert) if change.replica != unlike.replica and evidence.recording.arrival(change, unlike.replica) is not None]
         if is_turned and not is_known(old, insert) and came:
-            return TURNED_TOO.format(old=old.element, other=name, new=later.element, replica=unlike.replica, which=came[-1].element, line=evidence.recording.arrival(came[-1], unlike.replica).line)
-    return ""
+            return [Cause("turned too", TURNED_TOO.format(old=old.element, other=name, insert=at(insert), replica=unlike.replica, which=came[-1].element,
+                                                          line=evidence.recording.arrival(came[-1], unlike.replica).line))]
+    return []
 
 
 def seen(evidence: Evidence, later: Operation, old: Operation, is_numbered: bool) -> str:

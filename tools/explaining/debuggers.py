@@ -163,7 +163,7 @@ def doing(entry: Operation | Receipt) -> str:
     if isinstance(entry, Receipt):
         if entry.seen.element:
             return f"replica {entry.replica} applies {entry.seen.name}"
-        return f"{entry.seen.name}, a {entry.seen.kind}, arrives at replica {entry.replica}"
+        return f"the receipt of {entry.seen.name} at replica {entry.replica} stands"
     what = {"ins": f"inserts {entry.element}", "del": f"deletes {entry.element}", "read": "reads the list",
             "view": "shows a part of the list"}
     return f"replica {entry.replica} {what[entry.kind]}"

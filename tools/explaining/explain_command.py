@@ -133,7 +133,7 @@ def write_small(path: str, evidence: Evidence, told: Evidence, program: str, kno
     if os.path.isfile(path):  # a pipe or a device has no file beside it
         write(path + SIDE, "".join(f"{line}\n" for line in [len(lines), SMALL_MARK.decode(), *known.marks(small.lines), *placed]))
     print(f"\n{shown(path)} {same_as(evidence, told)} in {len(lines)} lines instead of {len(evidence.recording.lines)}. It keeps only what the verdict needs. What causes the bug may be among "
-          "what was left out: if you repeat these steps, your editor may answer differently. Its operations, and those of the whole trace:")
+          "what was left out: if you repeat these steps, your editor may answer differently. The operations of the small trace, and which of the whole trace they are:")
     made = Recording(small.text)
     named = [f"small {name} = whole {operation.name} (line {operation.line}{f'; {WHAT[operation.kind]} there, a read here' if made.operation(name).kind != operation.kind else ''})" for name, operation in small.operations]
     print("  " + "; ".join(named[:MOST_TOLD]) + (f"; and {len(named) - MOST_TOLD} more" if len(named) > MOST_TOLD else ""))
@@ -160,7 +160,7 @@ def explain(asked: argparse.Namespace, program: str, trace: bytes, side: Side, j
     hidden = warnings_of(judged.report["verdict"], trace, side, is_alone, refused)
     words = with_places(with_warnings(words, placed_warnings(hidden.all, known), refused), known)
     if (side.content or b"").split(b"\n")[1:2] == [SMALL_MARK]:
-        words = words._replace(sections=[one._replace(lines=[*one.lines, OF_SMALL]) if one.title == TITLE else one for one in words.sections])
+        words = words._replace(sections=[one._replace(lines=[OF_SMALL, *one.lines]) if one.title == TITLE else one for one in words.sections])
     is_passing = passes(judged.report, asked.weak)
     why = unjudged(asked, hidden, known) if is_passing else ""
     if why:
