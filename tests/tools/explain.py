@@ -632,7 +632,7 @@ PLANTED = {
     "clock": (300, 20, ["decides by numbers (a clock, ids) which of two inserts", "the clock that decides between inserts"]),
     "mapping": (150, 40, ["perhaps not adjusted for the delete", "perhaps not adjusted for the insert"]),
     "unmoved": (80, 40, [" was perhaps not adjusted for", "not adjusted for an insert", "not adjusted for inserts"]),
-    "behind": (80, 40, ["order of concurrent inserts", " concurrently: check also that every replica puts"]),
+    "behind": (80, 40, ["order of concurrent inserts", " concurrently: check also that "]),
     "twice": (500, 10, ["was already deleted there, by"]),
     "overtaking": (100, 50, ["overtook it in line"]),
     "none": (60, 0, []),
