@@ -159,7 +159,7 @@ def explain(asked: argparse.Namespace, program: str, trace: bytes, side: Side, j
     refused = tuple(map(shown, asked.refused)) or known.refused
     hidden = warnings_of(judged.report["verdict"], trace, side, is_alone, refused)
     words = with_places(with_warnings(words, placed_warnings(hidden.all, known), refused), known)
-    if (side.content or b"").split(b"\n")[1:2] == [SMALL_MARK]:
+    if (side.content or b"").split(b"\n", 2)[1:2] == [SMALL_MARK]:
         words = words._replace(sections=[one._replace(lines=[OF_SMALL, *one.lines]) if one.title == TITLE else one for one in words.sections])
     is_passing = passes(judged.report, asked.weak)
     why = unjudged(asked, hidden, known) if is_passing else ""
