@@ -174,16 +174,20 @@ def instead(evidence: Evidence, is_overtaken: bool) -> str:
 
 
 def came_again(evidence: Evidence) -> list:
-    """Of an element too many, or one that stands twice, whose insert came to the replica a second time; of one too many, after a delete."""
-    operation = evidence.operations[0]
-    for insert in [insert for name in (*evidence.repeated, *evidence.surplus) for insert in evidence.recording.inserts.get(name, [])]:
-        arrival = evidence.recording.arrival(insert, operation.replica) if insert.replica != operation.replica else None
+    """Of an element too many, or one that stands twice, whose insert came to the replica a second time, by a receipt of its own each time; of one too many, after a delete."""
+    operation, named = evidence.operations[0], {}
+    for receipt in evidence.recording.receipts[operation.replica]:
+        if receipt.line < operation.line:
+            named.setdefault(receipt.seen.key, []).append(receipt.line)
+    inserts = [insert for name in (*evidence.repeated, *evidence.surplus) for insert in evidence.recording.inserts.get(name, []) if len(named.get(insert.key, [])) > 1]
+    for insert in inserts:
+        first, *later = named[insert.key]
         deletes = [delete for delete in evidence.recording.deletes.get(insert.element, []) if operation.has_seen(delete)]
-        for receipt in evidence.recording.receipts[operation.replica] if arrival is not None else []:
-            gone = [delete for delete in deletes if evidence.line_at(delete, operation.replica) < receipt.line]
-            if receipt.seen is insert and arrival.line < receipt.line < operation.line and (gone or insert.element in evidence.repeated):
-                return [Cause("came again", CAME_AGAIN.format(change=insert.name, element=insert.element, replica=operation.replica, first=arrival.line, line=receipt.line, by=KNOWN_BY[bool(gone)],
-                                                              deleted=AND_DELETED.format(element=insert.element, delete=at(gone[0])) if gone else ""))]
+        gone = [delete for delete in deletes if evidence.line_at(delete, operation.replica) < later[-1]]
+        if gone or insert.element in evidence.repeated:
+            line = next((line for line in later if not gone or evidence.line_at(gone[0], operation.replica) < line), later[-1])
+            return [Cause("came again", CAME_AGAIN.format(change=insert.name, element=insert.element, replica=operation.replica, first=first, line=line, by=KNOWN_BY[bool(gone)],
+                                                          deleted=AND_DELETED.format(element=insert.element, delete=at(gone[0])) if gone else ""))]
     return []
 
 
