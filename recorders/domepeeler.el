@@ -535,11 +535,13 @@ and takes time linear in the text."
   (if (= (domepeeler-lines recording) domepeeler--head)
       (append (domepeeler--refusals recording)
               (list "nothing was recorded: the trace has no entry, so the verdict says nothing about your editor"))
-    (let ((warned (domepeeler--warned recording)))
+    (let* ((warned (domepeeler--warned recording))
+           (late (domepeeler--received-last recording warned))
+           (strangers (domepeeler--unheard recording)))
       (append (domepeeler--refusals recording)
-              (domepeeler--unshown recording warned)
-              (domepeeler--different recording warned)
-              (domepeeler--unheard recording)
+              (domepeeler--unshown warned late)
+              (domepeeler--different recording warned (unless strangers late))
+              strangers
               (domepeeler--without-operation recording warned)
               (domepeeler--some (domepeeler--warned-of-nothing warned) "delete" "of elements that no line inserts")
               (domepeeler--some (domepeeler--warned-past-end warned) "insert" "past the end of a list")))))
@@ -985,8 +987,8 @@ A letter stands first, as `2-0' would look like an operation's name."
      :entries entries
      :of-nothing (cl-loop for (name . named) in (nreverse deletes)
                           unless (gethash name inserted)
-                          collect (format "%s deleted %s, which no line inserts, so nothing was there to delete: is %s %s"
-                                          named name name "the right name, and was its insert recorded?"))
+                          collect (format "%s deleted %s, which no line inserts, so nothing was there to delete: %s"
+                                          named name "the name is wrong, or its insert was not recorded"))
      :past-end (nreverse past-end))))
 
 (defun domepeeler--acting (recording)
@@ -1003,9 +1005,10 @@ A letter stands first, as `2-0' would look like an operation's name."
            collect (format "replica %d has %s: nothing that it showed is judged" replica
                            (if (domepeeler--entries-receiving entries) "receipts, but no operation" "no entry"))))
 
-(defun domepeeler--different (recording warned)
+(defun domepeeler--different (recording warned late)
   "Whether the last lists that replicas showed differ as sets.
-And which changes never arrived at which replica."
+And which changes never arrived at which replica.  Where all
+that are not in LATE show one list, that may be why."
   (let (lists alike (count 0))
     (cl-loop for entries across (domepeeler--warned-entries warned)
              for replica from 0
@@ -1030,8 +1033,15 @@ And which changes never arrived at which replica."
       (cond
        ((and (< (length groups) 2) (= count 0)) nil)
        ((< (length groups) 2) (list (format "in this recording %s. %s" never lost)))
-       ((= count 0) (list told))
+       ((= count 0) (list (concat told (domepeeler--only-late groups late))))
        (t (list (format "%s: %s in this recording. %s" told never lost)))))))
+
+(defun domepeeler--only-late (groups late)
+  (let ((unread (sort (cl-remove-if-not (lambda (replica) (assq replica late)) (apply #'append groups)) #'<)))
+    (if (cdr (cl-remove-if (lambda (group) (cl-every (lambda (replica) (assq replica late)) group)) groups))
+        ""
+      (format ", maybe only because replica%s %s %s not read at the end" (if (cdr unread) "s" "") (domepeeler--joined unread)
+              (if (cdr unread) "were" "was")))))
 
 (defun domepeeler--lacked (recording warned replica)
   "The changes that never arrived at REPLICA, with their lines.
@@ -1062,13 +1072,16 @@ None of an author of which it never hears."
                            "so nothing shows how it applies these"
                            "At the end of a session let everyone receive everything, and then read the list")))
 
-(defun domepeeler--unshown (recording warned)
-  "Of replicas whose last receipts bring changes, and that show no list after them.
+(defun domepeeler--received-last (recording warned)
+  "By replica the last receipts that bring changes, where it shows no list after them.
 A view is none."
   (cl-loop for replica in (domepeeler--acting recording)
            for news = (domepeeler--news recording warned replica)
+           when news collect (cons replica news)))
+
+(defun domepeeler--unshown (warned late)
+  (cl-loop for (replica . news) in late
            for viewed = (domepeeler--entries-viewed (aref (domepeeler--warned-entries warned) replica))
-           when news
            collect (format "replica %d received %s last, and shows no list%s after %s: let each replica read at the end"
                            replica (domepeeler--listed news) (if viewed " but a view" "") (if (cdr news) "them" "that"))))
 

@@ -1261,11 +1261,11 @@ struct domepeeler_event {
 };
 
 /* What the entries of one replica in the text say: its operations; the lines of its changes; whether it has receipts; the names of the list
- * that it showed last, which a view is not, or NULL, and the number of that operation; which receipts came since, and whether a view
- * follows them. */
+ * that it showed last, which a view is not, or NULL, and the number of that operation; which receipts came since, whether a view
+ * follows them, and whether they bring changes. */
 struct domepeeler_entries {
     unsigned operations, changed, since, last;
-    int is_receiving, is_viewed;
+    int is_receiving, is_viewed, is_late;
     size_t *lines;
     struct domepeeler_event *arrived;
     const char *shown;
@@ -1449,6 +1449,33 @@ static inline size_t domepeeler_say_alike(const struct domepeeler_warned *w, str
     return count;
 }
 
+/* Of which replicas with changes one that did something never heard. Answers how many they are. */
+static inline size_t domepeeler_unheard(const struct domepeeler_warned *w, int replica, int *others) {
+    size_t count = 0;
+    for (int author = 0; author < w->d->replicas && w->d->of[replica].operations; author++) {
+        const struct domepeeler_replica *of = &w->d->of[author];
+        if (author != replica && of->changed && of->changes[0] > w->d->of[replica].others[author]) others[count++] = author;
+    }
+    return count;
+}
+
+/* Where all hear of all, and those that are not late show one list: that the lists may differ since the late ones were not read. */
+static inline void domepeeler_say_only_late(const struct domepeeler_warned *w, const int *like) {
+    size_t count = 0, told = 0;
+    int settled = -1, others[DOMEPEELER_REPLICAS];
+    for (int i = 0; i < w->d->replicas; i++) {
+        if (domepeeler_unheard(w, i, others)) return;
+        if (like[i] < 0) continue;
+        if (!w->of[i].is_late && settled >= 0 && settled != like[i]) return;
+        if (!w->of[i].is_late) settled = like[i];
+        count += (size_t)w->of[i].is_late;
+    }
+    domepeeler_say(w->said, ", maybe only because replica%s ", domepeeler_plural(count));
+    for (int i = 0; i < w->d->replicas; i++)
+        if (like[i] >= 0 && w->of[i].is_late) domepeeler_say(w->said, "%s%d", domepeeler_joint(told++, count), i);
+    domepeeler_say(w->said, " %s not read at the end", count == 1 ? "was" : "were");
+}
+
 /* Whether the last lists that replicas showed differ as sets, and which changes never arrived at which replica. */
 static inline void domepeeler_say_different(const struct domepeeler_warned *w) {
     struct domepeeler_words never = {NULL, 0, 0, 0}, none = {NULL, 0, 0, 0};
@@ -1468,6 +1495,7 @@ static inline void domepeeler_say_different(const struct domepeeler_warned *w) {
             domepeeler_say(w->said, " do%s", ++told == groups ? ")" : "");
         }
         if (count) domepeeler_say(w->said, ": %s in this recording. %s", never.text ? never.text : "", lost);
+        if (!count) domepeeler_say_only_late(w, like);
         domepeeler_say(w->said, "\n");
     } else if (count) {
         domepeeler_say(w->said, "in this recording %s. %s\n", never.text ? never.text : "", lost);
@@ -1480,12 +1508,8 @@ static inline void domepeeler_say_different(const struct domepeeler_warned *w) {
 static inline void domepeeler_say_unheard(const struct domepeeler_warned *w) {
     for (int i = 0; i < w->d->replicas; i++) {
         int others[DOMEPEELER_REPLICAS];
-        size_t count = 0;
-        for (int author = 0; author < w->d->replicas; author++) {
-            const struct domepeeler_replica *of = &w->d->of[author];
-            if (author != i && of->changed && of->changes[0] > w->d->of[i].others[author]) others[count++] = author;
-        }
-        if (!count || !w->d->of[i].operations) continue;
+        size_t count = domepeeler_unheard(w, i, others);
+        if (!count) continue;
         domepeeler_say(w->said, "replica %d never hears of replica%s ", i, domepeeler_plural(count));
         for (size_t k = 0; k < count; k++) domepeeler_say(w->said, "%s%d", domepeeler_joint(k, count), others[k]);
         domepeeler_say(w->said, ": no receipt brings it an insert or a delete from there, so nothing shows how it applies these. "
@@ -1514,6 +1538,7 @@ static inline void domepeeler_say_unshown(struct domepeeler_warned *w) {
             if (is_new) entries->arrived[news++] = event;
         }
         if (!news) continue;
+        entries->is_late = 1;
         domepeeler_say(w->said, "replica %d received ", i);
         domepeeler_say_changes(w->d, w->said, entries->arrived, news);
         domepeeler_say(w->said, " last, and shows no list%s after %s: let each replica read at the end\n",
@@ -1543,8 +1568,8 @@ static inline void domepeeler_say_of_nothing(const struct domepeeler_warned *w) 
         if (bsearch(&one->name, w->inserted, w->inserts, sizeof *w->inserted, domepeeler_compare)) continue;
         if (count++ < DOMEPEELER_TOLD)
             domepeeler_say(w->said, "line %zu, %d.%u: replica %d deleted %.*s, which no line inserts, so nothing was there to "
-                                    "delete: is %.*s the right name, and was its insert recorded?\n", one->line, one->author, one->n,
-                           one->author, (int)one->name.length, one->name.at, (int)one->name.length, one->name.at);
+                                    "delete: the name is wrong, or its insert was not recorded\n", one->line, one->author, one->n,
+                           one->author, (int)one->name.length, one->name.at);
     }
     domepeeler_say_more(w->said, count, "delete", "of elements that no line inserts");
 }

@@ -952,13 +952,14 @@ function hidden(lines) {
       }
     } else if (kind === "del") {
       deletes.push([words[2], `line ${line}, ${replica}.${n}: replica ${replica} deleted ${words[2]}, which no line inserts, so nothing ` +
-        `was there to delete: is ${words[2]} the right name, and was its insert recorded?`])
+        "was there to delete: the name is wrong, or its insert was not recorded"])
     }
   })
   const ofNothing = deletes.filter(([name]) => !inserted.has(name)).map(([, said]) => said)
   const silent = ends.flatMap(({ pasts, receipts }, replica) => (pasts.length ? [] :
     [`replica ${replica} has ${receipts ? "receipts, but no operation" : "no entry"}: nothing that it showed is judged`]))
-  return [...unshown(ends), ...different(ends), ...unheard(ends), ...silent, ...some(ofNothing, "delete", "of elements that no line inserts"),
+  const [late, strangers] = [receivedLast(ends), unheard(ends)]
+  return [...unshown(ends, late), ...different(ends, strangers.length ? new Map() : late), ...strangers, ...silent, ...some(ofNothing, "delete", "of elements that no line inserts"),
     ...some(pastEnd, "insert", "past the end of a list")]
 }
 
@@ -972,8 +973,8 @@ function some(said, what, which) {
 }
 
 // Whether the last lists that replicas showed differ as sets, and which changes never arrived at which replica. Of an author of which a
-// replica never hears that is said by itself.
-function different(ends) {
+// replica never hears that is said by itself. Where all that are not late show one list, that may be why.
+function different(ends, late) {
   const lists = new Map()
   ends.forEach(({ shown }, replica) => {
     if (shown === null) return
@@ -993,7 +994,14 @@ function different(ends) {
   const replicas = [...lists.values()].flat().sort((a, b) => a - b)
   const same = [...lists.values()].filter((one) => one.length > 1).map((one) => `${joined(one)} do`)
   const said = `in the end replicas ${joined(replicas)} ${same.length ? `do not all show the same list (${same.join("; ")})` : "show different lists"}`
-  return [never.length ? `${said}: ${never.join("; ")} in this recording. ${lost}` : said]
+  return [never.length ? `${said}: ${never.join("; ")} in this recording. ${lost}` : said + onlyLate([...lists.values()], late)]
+}
+
+function onlyLate(groups, late) {
+  if (groups.filter((same) => same.some((replica) => !late.has(replica))).length > 1) return ""
+  const unread = groups.flat().filter((replica) => late.has(replica)).sort((a, b) => a - b)
+  const which = unread.length === 1 ? `replica ${unread[0]} was` : `replicas ${joined(unread)} were`
+  return `, maybe only because ${which} not read at the end`
 }
 
 // The changes that never arrived at the replica, in the order of the trace, as many as are told, and how many there are; none of an author
@@ -1022,19 +1030,22 @@ function unheard(ends) {
   })
 }
 
-// Of replicas whose last receipts bring changes, and are followed by no list that it shows, or by a view alone.
-function unshown(ends) {
-  return ends.flatMap(({ pasts, atLast, since, isViewed }, replica) => {
+// By replica the last receipts that bring changes, and are followed by no list that it shows, or by a view alone.
+function receivedLast(ends) {
+  return new Map(ends.flatMap(({ pasts, atLast, since }, replica) => {
     let has = atLast
     const news = since.filter(({ author, n }) => {
       const before = has
       has = most(has, ends[author].pasts[n - 1])
       return ends.some(({ changes }, other) => upTo(changes, has[other]) > upTo(changes, before[other]))
     }).map(({ author, n, line }) => `${author}.${n} (line ${line})`)
-    if (!pasts.length || !news.length) return []
-    return [`replica ${replica} received ${listing(news, news.length)} last, and shows no list${isViewed ? " but a view" : ""} after ` +
-      `${news.length === 1 ? "that" : "them"}: let each replica read at the end`]
-  })
+    return pasts.length && news.length ? [[replica, news]] : []
+  }))
+}
+
+function unshown(ends, late) {
+  return [...late].map(([replica, news]) => `replica ${replica} received ${listing(news, news.length)} last, and shows no list` +
+    `${ends[replica].isViewed ? " but a view" : ""} after ${news.length === 1 ? "that" : "them"}: let each replica read at the end`)
 }
 
 // The first of so many, and how many more there are.

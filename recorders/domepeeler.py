@@ -968,11 +968,12 @@ def _hidden(lines: List[str]) -> List[str]:
                                 f"a list of length {before}, so it counts as the end: is position {words[3]} right?")
         elif kind == "del":
             deletes.append((words[2], f"line {line}, {replica}.{n}: replica {replica} deleted {words[2]}, which no line inserts, so nothing "
-                                      f"was there to delete: is {words[2]} the right name, and was its insert recorded?"))
+                                      "was there to delete: the name is wrong, or its insert was not recorded"))
     of_nothing = [told for name, told in deletes if name not in inserted]
     silent = [f"replica {replica} has {'receipts, but no operation' if one.receipts else 'no entry'}: nothing that it showed is judged"
               for replica, one in enumerate(ends) if not one.pasts]
-    return [*_unshown(ends), *_different(ends), *_unheard(ends), *silent, *_some(of_nothing, "delete", "of elements that no line inserts"),
+    late, strangers = _received_last(ends), _unheard(ends)
+    return [*_unshown(ends, late), *_different(ends, {} if strangers else late), *strangers, *silent, *_some(of_nothing, "delete", "of elements that no line inserts"),
             *_some(past_end, "insert", "past the end of a list")]
 
 
@@ -985,9 +986,9 @@ def _some(told: List[str], what: str, which: str) -> List[str]:
     return told[:MOST_WARNED] + ([f"and {more} more {what}{'' if more == 1 else 's'} {which}"] if more > 0 else [])
 
 
-def _different(ends: List[_End]) -> List[str]:
+def _different(ends: List[_End], late: Dict[int, List[str]]) -> List[str]:
     """Whether the last lists that replicas showed differ as sets, and which changes never arrived at which replica. Of an author of which
-    a replica never hears that is said by itself."""
+    a replica never hears that is said by itself. Where all that are not late show one list, that may be why."""
     lists: Dict[frozenset[str], List[int]] = {}
     for replica, one in enumerate(ends):
         if one.shown is not None:
@@ -1005,7 +1006,15 @@ def _different(ends: List[_End]) -> List[str]:
     among = _joined(map(str, sorted(sum(lists.values(), []))))
     same = [f"{_joined(map(str, one))} do" for one in lists.values() if len(one) > 1]
     told = f"in the end replicas {among} " + (f"do not all show the same list ({'; '.join(same)})" if same else "show different lists")
-    return [f"{told}: {lacked} in this recording. {lost}" if never else told]
+    return [f"{told}: {lacked} in this recording. {lost}" if never else told + _only_late(list(lists.values()), late)]
+
+
+def _only_late(groups: List[List[int]], late: Dict[int, List[str]]) -> str:
+    unread = sorted(replica for same in groups for replica in same if replica in late)
+    if sum(not late.keys() >= set(same) for same in groups) > 1:
+        return ""
+    which = f"replica {unread[0]} was" if len(unread) == 1 else f"replicas {_joined(map(str, unread))} were"
+    return f", maybe only because {which} not read at the end"
 
 
 def _lacked(ends: List[_End], replica: int) -> Tuple[List[str], int]:
@@ -1035,9 +1044,9 @@ def _unheard(ends: List[_End]) -> List[str]:
     return told
 
 
-def _unshown(ends: List[_End]) -> List[str]:
-    """Of replicas whose last receipts bring changes, and are followed by no list that it shows, or by a view alone."""
-    told = []
+def _received_last(ends: List[_End]) -> Dict[int, List[str]]:
+    """By replica the last receipts that bring changes, and are followed by no list that it shows, or by a view alone."""
+    late = {}
     for replica, one in enumerate(ends):
         has, news = one.at_last, []
         for author, n, line in one.since:
@@ -1047,10 +1056,13 @@ def _unshown(ends: List[_End]) -> List[str]:
                 news.append(f"{author}.{n} (line {line})")
             has = after
         if one.pasts and news:
-            but = " but a view" if one.is_viewed else ""
-            told.append(f"replica {replica} received {_listing(news, len(news))} last, and shows no list{but} after "
-                        f"{'that' if len(news) == 1 else 'them'}: let each replica read at the end")
-    return told
+            late[replica] = news
+    return late
+
+
+def _unshown(ends: List[_End], late: Dict[int, List[str]]) -> List[str]:
+    return [f"replica {replica} received {_listing(news, len(news))} last, and shows no list{' but a view' if ends[replica].is_viewed else ''} "
+            f"after {'that' if len(news) == 1 else 'them'}: let each replica read at the end" for replica, news in late.items()]
 
 
 def _listing(told: List[str], count: int) -> str:

@@ -1359,7 +1359,7 @@ impl<'a> Warned<'a> {
         for (name, named) in deletes.into_iter().filter(|(name, _)| !inserted.contains(name)) {
             warned.of_nothing.push(format!(
                 "{named} deleted {name}, which no line inserts, so nothing was there to delete: \
-                 is {name} the right name, and was its insert recorded?"
+                 the name is wrong, or its insert was not recorded"
             ));
         }
         warned
@@ -1369,9 +1369,10 @@ impl<'a> Warned<'a> {
         if self.recording.callers.is_empty() {
             return vec!["nothing was recorded: the trace has no entry, so the verdict says nothing about your editor".to_string()];
         }
-        let mut all = self.unshown();
-        all.extend(self.different());
-        all.extend(self.unheard());
+        let (late, strangers) = (self.received_last(), self.unheard());
+        let mut all = self.unshown(&late);
+        all.extend(self.different(&if strangers.is_empty() { late } else { BTreeMap::new() }));
+        all.extend(strangers);
         all.extend(self.without_operation());
         all.extend(some(&self.of_nothing, "delete", "of elements that no line inserts"));
         all.extend(some(&self.past_end, "insert", "past the end of a list"));
@@ -1392,8 +1393,9 @@ impl<'a> Warned<'a> {
         })
     }
 
-    /// Whether the last lists that replicas showed differ as sets, and which changes never arrived at which replica.
-    fn different(&self) -> Vec<String> {
+    /// Whether the last lists that replicas showed differ as sets, and which changes never arrived at which replica. Where all
+    /// that are not late show one list, that may be why.
+    fn different(&self, late: &BTreeMap<usize, Vec<String>>) -> Vec<String> {
         let mut lists: Vec<(BTreeSet<&str>, Vec<usize>)> = Vec::new();
         for (replica, entries) in self.replicas.iter().enumerate() {
             let list = entries.shown.map(|shown| shown.split_ascii_whitespace().collect());
@@ -1429,7 +1431,19 @@ impl<'a> Warned<'a> {
             same => format!("do not all show the same list ({same})"),
         };
         let told = format!("in the end replicas {} {differ}", joined(&replicas));
-        vec![if count == 0 { told } else { format!("{told}: {never} in this recording. {lost}") }]
+        let is_settled = |of: &&Vec<usize>| of.iter().any(|replica| !late.contains_key(replica));
+        let is_only_late = lists.iter().map(|(_, of)| of).filter(is_settled).count() < 2;
+        replicas.retain(|replica| late.contains_key(replica));
+        vec![match (count, is_only_late) {
+            (0, false) => told,
+            (0, true) => format!(
+                "{told}, maybe only because replica{} {} {} not read at the end",
+                plural(replicas.len()),
+                joined(&replicas),
+                if replicas.len() == 1 { "was" } else { "were" }
+            ),
+            _ => format!("{told}: {never} in this recording. {lost}"),
+        }]
     }
 
     /// The changes that never arrived at the replica, with their lines; none of an author of which it never hears.
@@ -1465,11 +1479,11 @@ impl<'a> Warned<'a> {
         told
     }
 
-    /// Of replicas whose last receipts bring changes, and are followed by no list that they show, or by a view alone.
-    fn unshown(&self) -> Vec<String> {
-        let mut told = Vec::new();
+    /// By replica the last receipts that bring changes, and are followed by no list that it shows, or by a view alone.
+    fn received_last(&self) -> BTreeMap<usize, Vec<String>> {
+        let mut late = BTreeMap::new();
         for (replica, own) in self.recording.replicas.iter().enumerate().filter(|(_, own)| own.operations > 0) {
-            let Entries { last, is_viewed, .. } = self.replicas[replica];
+            let last = self.replicas[replica].last;
             let mut has = match last {
                 0 => vec![0; self.replicas.len()],
                 _ => own.pasts[last as usize - 1].to_vec(),
@@ -1489,15 +1503,20 @@ impl<'a> Warned<'a> {
                 }
             }
             if !news.is_empty() {
-                let what = if news.len() == 1 { "that" } else { "them" };
-                let but = if is_viewed { " but a view" } else { "" };
-                told.push(format!(
-                    "replica {replica} received {} last, and shows no list{but} after {what}: let each replica read at the end",
-                    listed(&news)
-                ));
+                late.insert(replica, news);
             }
         }
-        told
+        late
+    }
+
+    fn unshown(&self, late: &BTreeMap<usize, Vec<String>>) -> Vec<String> {
+        let told = |(&replica, news): (&usize, &Vec<String>)| {
+            let what = if news.len() == 1 { "that" } else { "them" };
+            let but = if self.replicas[replica].is_viewed { " but a view" } else { "" };
+            let news = listed(news);
+            format!("replica {replica} received {news} last, and shows no list{but} after {what}: let each replica read at the end")
+        };
+        late.iter().map(told).collect()
     }
 
     /// A line of the trace, with its place in your code.

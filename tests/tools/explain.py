@@ -647,7 +647,8 @@ OF_OTHERS = {"positions": {"identifiers", "between", "behind unknown", "numbers"
 # By planted bug by which changes are lost: how many seeds, how many sessions fail at least, and of how many of these the words name one.
 LOST_MESSAGES = {"lost": (150, 60, 1.0), "dropped": (150, 80, 0.97)}
 
-NO_INSERT = ", which no line inserts, so nothing was there to delete: is {} the right name, and was its insert recorded?"
+NO_INSERT = ", which no line inserts, so nothing was there to delete: the name is wrong, or its insert was not recorded"
+NOT_READ = "in the end replicas 0 and 1 show different lists, maybe only because replica 1 was not read at the end"
 UNHEARD = ("no receipt brings it an insert or a delete from there, so nothing shows how it applies these. At the end of a session let "
            "everyone receive everything, and then read the list")
 IT, THEY = "Unless it was still on its way, it was lost or is held back", "Unless they were still on their way, they were lost or are held back"
@@ -658,9 +659,9 @@ WARNED = [
      "replica 1 has no entry: nothing that it showed is judged"),
     ("a replica with receipts alone", 2, "0 ins a 0 : a|1 recv 0 1",
      "replica 1 has receipts, but no operation: nothing that it showed is judged"),
-    ("a delete of what nothing inserts", 1, "0 ins a 0 : a|0 del A : a|0 del a :", "line 4, 0.2: replica 0 deleted A" + NO_INSERT.format("A")),
+    ("a delete of what nothing inserts", 1, "0 ins a 0 : a|0 del A : a|0 del a :", "line 4, 0.2: replica 0 deleted A" + NO_INSERT),
     ("seven of them", 2, "1 read :|" + "|".join(f"0 del a{i} :" for i in range(7)) + "|1 recv 0 7|1 read :",
-     "|".join(f"line {i + 4}, 0.{i + 1}: replica 0 deleted a{i}" + NO_INSERT.format(f"a{i}") for i in range(5))
+     "|".join(f"line {i + 4}, 0.{i + 1}: replica 0 deleted a{i}" + NO_INSERT for i in range(5))
      + "|and 2 more deletes of elements that no line inserts"),
     ("an insert past the end", 1, "0 ins a 0 : a|0 ins b 2 : a b|0 ins c 2 : a b c|0 ins d 4294967295 : a b c d",
      f"line 4, 0.2: replica 0 inserted b at position 2, past the end of a list of length 1, so it counts as the end: is position 2 right?|"
@@ -678,11 +679,11 @@ WARNED = [
     ("all hear by way of a third", 3, "0 ins a 0 : a|2 recv 0 1|2 read : a|1 ins b 0 : b|1 recv 2 1|2 recv 1 1|2 read : b a|0 recv 2 2|"
      "0 read : b a|1 read : b a", ""),
     ("one that hears at the end", 2, "0 ins a 0 : a|1 read :|1 recv 0 1",
-     f"replica 1 received 0.1 (line 5) last, and shows no list after that: {UNSHOWN}|in the end replicas 0 and 1 show different lists"),
+     f"replica 1 received 0.1 (line 5) last, and shows no list after that: {UNSHOWN}|{NOT_READ}"),
     ("one that hears at the end, and shows a part", 2, "0 ins a 0 : a|1 recv 0 1|1 view :",
      f"replica 1 received 0.1 (line 4) last, and shows no list but a view after that: {UNSHOWN}"),
     ("a receipt before a view and one behind it", 2, "0 ins a 0 : a|1 read :|1 recv 0 1|1 view : a|0 ins b 0 : b a|1 recv 0 2",
-     f"replica 1 received 0.1 (line 5) and 0.2 (line 8) last, and shows no list after them: {UNSHOWN}|in the end replicas 0 and 1 show different lists"),
+     f"replica 1 received 0.1 (line 5) and 0.2 (line 8) last, and shows no list after them: {UNSHOWN}|{NOT_READ}"),
     ("a list between a receipt and a view", 2, "0 ins a 0 : a|1 recv 0 1|1 read : a|1 view : a", ""),
     ("one that reads is not heard of", 2, "0 ins a 0 : a|1 recv 0 1|1 read : a", ""),
     ("a delete before its insert", 2, "0 ins a 0 : a|1 del a :|1 recv 0 1|1 read :|0 recv 1 1|0 read :", ""),
@@ -697,7 +698,7 @@ WARNED = [
      "in the end replicas 0, 1 and 2 show different lists: 0.2 (line 8), 0.3 (line 9), 0.4 (line 10) and 1 more never arrived at replica 1; "
      f"0.4 (line 10) and 0.5 (line 11) never arrived at replica 2 in this recording. {THEY}"),
     ("one that makes nothing of what came last", 2, "0 ins a 0 : a|1 recv 0 1|1 read : a|0 ins b 1 : a b|0 read : a b|1 recv 0 3",
-     f"replica 1 received 0.3 (line 8) last, and shows no list after that: {UNSHOWN}|in the end replicas 0 and 1 show different lists"),
+     f"replica 1 received 0.3 (line 8) last, and shows no list after that: {UNSHOWN}|{NOT_READ}"),
     ("one that receives what it has", 2, "0 ins a 0 : a|1 recv 0 1|1 read : a|0 read : a|1 recv 0 2|1 recv 0 1", ""),
     ("lists in other orders", 2, "0 ins a 0 : a|0 ins b 1 : a b|1 recv 0 2|1 read : a b", ""),
 ]

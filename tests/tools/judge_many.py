@@ -684,7 +684,7 @@ def here_and_elsewhere(tally: Tally, program: str, folder: str, other: str, want
         tally.check(f"{machines}: all traces stay here, and none there", sorted(map(str, Path(folder).rglob("*"))) == before and not left, left)
 
 
-FIRST_VERDICT = "`first verdict` is that of the lines up to `fails at`, and domepeeler-explain begins with it; `verdict` and `k` are of the whole trace"
+FIRST_FAULT = "fails at {0} ({1}): the first {0} lines fail already, with {1}, and domepeeler-explain begins there; `verdict` and `k` are of the whole trace"
 
 
 def fails_at(tally: Tally, program: str, folder: str) -> None:
@@ -708,8 +708,9 @@ def fails_at(tally: Tally, program: str, folder: str) -> None:
     first = {Path(row["file"]).stem: row.get("first_fault") for row in rows if Path(row["file"]).stem.isalpha()}
     tally.check("fails at: another verdict first, by hand", first == {**dict.fromkeys("abcde"), "g": "contents 1.2", "h": "contents 0.2", "i": "position 1.2"}, first)
     lines = [cells(line) for line in judge(program, [f"{folder}/{name}.trace" for name in "abgh"]).out.decode().splitlines()]
-    tally.check("fails at: the table has a column for it", [(Path(line[0]).stem, line[3], line[4]) for line in lines[:-2]] == [
-        ("file", "fails at", "first verdict"), ("h", "4", "contents 0.2"), ("g", "4", "contents 1.2"), ("a", "6", "contents 0.4"), ("b", "6", "doubled 0.2 1.1")], lines)
+    tally.check("fails at: the table says which, where it is another", [(Path(line[0]).stem, line[3]) for line in lines[:-2]] == [
+        ("file", "fails at"), ("h", "4 (contents 0.2)"), ("g", "4 (contents 1.2)"), ("a", "6"), ("b", "6")], lines)
+    tally.check("fails at: and what that means", lines[-1] == (FIRST_FAULT.format(4, "contents 0.2"),), lines)
     for row in rows:
         lines = Path(row["file"]).read_bytes().splitlines(keepends=True)
         before, behind = (run(program, ["verdict", "-"], b"".join(lines[:count])).status for count in (row["fails_at"] - 1, row["fails_at"]))
@@ -2180,8 +2181,8 @@ def weak(tally: Tally, program: str, folder: str) -> None:
     usual = judge(program, [folder])
     told = usual.out.decode()
     tally.check("weak: not asked for", usual.status == 1 and "weak" not in told and not usual.err and told.endswith(
-        f"5 traces: 1 accepted, 3 refused, 1 contents\n{FIRST_VERDICT}\n") and [cells(line)[1:6] for line in told.splitlines()[1:5]] == [
-            ("refused", "3", "11", "refused 3", "11"), ("contents", "-", "11", "refused 3", "14"), ("refused", "3", "11", "refused 3", "17"), ("refused", "2", "11", "refused 3", "17")], usual)
+        f"5 traces: 1 accepted, 3 refused, 1 contents\n{FIRST_FAULT.format(11, 'refused 3')}\n") and [cells(line)[1:5] for line in told.splitlines()[1:5]] == [
+            ("refused", "3", "11", "11"), ("contents", "-", "11 (refused 3)", "14"), ("refused", "3", "11", "17"), ("refused", "2", "11 (refused 3)", "17")], usual)
     passing = [f"{folder}/{name}.trace" for name in ("alone", "right", "unequal")]
     got = judge(program, ["--weak", *passing])
     tally.check("weak: status 0 where none fails", got.status == 0 and b"\n3 traces: 1 accepted, 2 weak alone\n" in got.out, got)

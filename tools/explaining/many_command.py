@@ -24,7 +24,6 @@ from .programs import WAYS, WEAK_ALONE, NoProgram, check_is_domepeeler, find_pro
 from .recordings import FIRST_ENTRY
 from .rows import KINDS, NO_VERDICTS, Request, Row, failed
 from .warnings import SAVED, is_first
-from .words import verdict_of
 
 NAME = "domepeeler-judge-many"
 ABOUT = ("Judges all traces below some folders, several at a time, and lists them: first the one that fails in the fewest lines. Failures that look the same share a row, and `similar` counts the others. "
@@ -149,12 +148,12 @@ def together(rows: list) -> list:
     return [(same[0], len(same) - 1) for same in found.values()]
 
 
-FIRST_VERDICT = "`first verdict` is that of the lines up to `fails at`, and domepeeler-explain begins with it; `verdict` and `k` are of the whole trace"
+FIRST_FAULT = "fails at {0} ({1}): the first {0} lines fail already, with {1}, and domepeeler-explain begins there; `verdict` and `k` are of the whole trace"
 
 
-def first_fault_of(row: Row) -> str:
-    """The verdict on the first lines that fail, of which that on the whole is mostly the same."""
-    return row.first_fault or (verdict_of(row.report).strip("`") if row.fails_at else "-")
+def fails_at(row: Row) -> str:
+    """How many first lines fail, with the verdict on these where that on the whole is another."""
+    return f"{row.fails_at or '-'}" + (f" ({row.first_fault})" if row.first_fault else "")
 
 
 def print_table(rows: list, listed: list, is_weak: bool) -> None:
@@ -164,8 +163,8 @@ def print_table(rows: list, listed: list, is_weak: bool) -> None:
     columns = [("file", [shown(row.file) for row, _ in rows_told]), ("verdict", [told_verdict(row) for row, _ in rows_told]),
                ("k", [str(row.k or "-") for row, _ in rows_told])]
     columns += [("weak", [HOLDS[(row.report or {}).get("weak")] for row, _ in rows_told])] if is_weak else []
-    columns += [("fails at", [str(row.fails_at or "-") for row, _ in rows_told])]
-    columns += [("first verdict", [first_fault_of(row) for row, _ in rows_told])] if any(row.first_fault for row, _ in rows_told) else []
+    others = [row for row, _ in rows_told if row.first_fault]
+    columns += [("fails at", [fails_at(row) for row, _ in rows_told])]
     columns += [("lines", [str(row.lines) for row, _ in rows_told]), ("seconds", [f"{row.seconds:.3f}" for row, _ in rows_told])]
     for head, told in (("similar", [more for _, more in rows_told]), ("warnings", [len(row.warnings or []) for row, _ in rows_told])):
         columns += [(head, list(map(str, told)))] if any(told) else []
@@ -173,18 +172,17 @@ def print_table(rows: list, listed: list, is_weak: bool) -> None:
         columns.append(("noted", ["; ".join(map(shown, row.notes or ["-"])) for row, _ in rows_told]))
     cells = [[head, *told] for head, told in columns] if rows_told else []
     widths = [max(map(len, column)) for column in cells]
+    left = {"file", "verdict", "noted", *(["fails at"] if others else [])}
     for line in zip(*cells):
-        told = [cell.ljust(width) if place < 2 or place > 5 and cells[place][0] == "noted" else cell.rjust(width)
-                for place, (cell, width) in enumerate(zip(line, widths))]
+        told = [cell.ljust(width) if cells[place][0] in left else cell.rjust(width) for place, (cell, width) in enumerate(zip(line, widths))]
         print("  ".join(told).rstrip() if cells[-1][0] == "noted" else "  ".join(told))
     counts = Counter("weak alone" if row.weak_alone else row.verdict for row in rows)
     told = ", ".join(f"{counts[kind]} {kind}" for kind in [*KINDS[:1], "weak alone", *KINDS[1:]] if counts[kind])
-    left = sum(more for _, more in rows_told)
-    unlisted = f"; {left} more look{'s' if left == 1 else ''} the same as a listed one (`similar`)" if left else ""
-    is_other = any(row.first_fault for row, _ in rows_told)
+    similar = sum(more for _, more in rows_told)
+    unlisted = f"; {similar} more look{'s' if similar == 1 else ''} the same as a listed one (`similar`)" if similar else ""
     print(f"{len(rows)} trace{'' if len(rows) == 1 else 's'}: {told}{unlisted}")
-    if is_other:
-        print(FIRST_VERDICT)
+    if others:
+        print(FIRST_FAULT.format(others[0].fails_at, others[0].first_fault))
 
 
 def object_of(row: Row) -> dict:

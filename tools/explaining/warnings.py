@@ -112,10 +112,11 @@ def hidden(trace: bytes) -> tuple:
                                 f"{words[3].decode()}, past the end of a list of length {before}, so it counts as the end: is position {words[3].decode()} right?")
         elif kind == b"del":
             deletes.append((words[2], f"line {line}, {replica}.{n}: replica {replica} deleted {words[2].decode()}, which no line inserts, "
-                            f"so nothing was there to delete: is {words[2].decode()} the right name, and was its insert recorded?"))
+                            "so nothing was there to delete: the name is wrong, or its insert was not recorded"))
     of_nothing = [told for name, told in deletes if name not in inserted]
     others = [*some(of_nothing, "delete", "of elements that no line inserts"), *some(past_end, "insert", "past the end of a list")]
-    ends, silent = [*unshown(replicas), *different(replicas), *unheard(replicas)], without_operation(replicas)
+    late, strangers, silent = received_last(replicas), unheard(replicas), without_operation(replicas)
+    ends = [*unshown(replicas, late), *different(replicas, {} if strangers else late), *strangers]
     if any(one.changes for one in replicas):  # of which a silent replica shows nothing
         return [*ends, *silent], others
     return ends, [*silent, *others]
@@ -131,9 +132,9 @@ def some(told: list, what: str, which: str) -> list:
     return told[:MOST_TOLD] + ([f"and {more} more {what}{'' if more == 1 else 's'} {which}"] if more > 0 else [])
 
 
-def different(replicas: list) -> list:
+def different(replicas: list, late: dict) -> list:
     """Whether the last lists that replicas showed differ as sets, and which changes never arrived at which replica. Of an author of
-    which a replica never hears that is said by itself."""
+    which a replica never hears that is said by itself. Where all that are not late show one list, that may be why."""
     lists = {}
     for replica, one in enumerate(replicas):
         if one.shown is not None:
@@ -151,7 +152,15 @@ def different(replicas: list) -> list:
     among = joined(sorted(replica for same in lists.values() for replica in same))
     same = [f"{joined(one)} do" for one in lists.values() if len(one) > 1]
     told = f"in the end replicas {among} " + (f"do not all show the same list ({'; '.join(same)})" if same else "show different lists")
-    return [f"{told}: {lacking_told} in this recording. {lost}" if never else told]
+    return [f"{told}: {lacking_told} in this recording. {lost}" if never else told + only_late(lists.values(), late)]
+
+
+def only_late(groups: list, late: dict) -> str:
+    unread = sorted(replica for same in groups for replica in same if replica in late)
+    if sum(not late.keys() >= set(same) for same in groups) > 1:
+        return ""
+    which = f"replica {unread[0]} was" if len(unread) == 1 else f"replicas {joined(unread)} were"
+    return f", maybe only because {which} not read at the end"
 
 
 def lacked(replicas: list, replica: int) -> tuple:
@@ -181,9 +190,9 @@ def unheard(replicas: list) -> list:
     return told
 
 
-def unshown(replicas: list) -> list:
-    """Of replicas whose last receipts bring changes, and are followed by no list that it shows, or by a view alone."""
-    told = []
+def received_last(replicas: list) -> dict:
+    """By replica the last receipts that bring changes, and are followed by no list that it shows, or by a view alone."""
+    late = {}
     for replica, one in enumerate(replicas):
         has, news = one.at_last, []
         for author, n, line in one.since:
@@ -193,10 +202,13 @@ def unshown(replicas: list) -> list:
                 news.append(f"{author}.{n} (line {line})")
             has = after
         if one.pasts and news:
-            but = " but a view" if one.is_viewed else ""
-            told.append(f"replica {replica} received {listed(news[:MOST_CHANGES], len(news))} last, and shows no list{but} after "
-                        f"{'that' if len(news) == 1 else 'them'}: let each replica read at the end")
-    return told
+            late[replica] = news
+    return late
+
+
+def unshown(replicas: list, late: dict) -> list:
+    return [f"replica {replica} received {listed(news[:MOST_CHANGES], len(news))} last, and shows no list{' but a view' if replicas[replica].is_viewed else ''} "
+            f"after {'that' if len(news) == 1 else 'them'}: let each replica read at the end" for replica, news in late.items()]
 
 
 def listed(first: list, count: int) -> str:
