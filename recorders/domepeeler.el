@@ -987,7 +987,7 @@ A letter stands first, as `2-0' would look like an operation's name."
      :entries entries
      :of-nothing (cl-loop for (name . named) in (nreverse deletes)
                           unless (gethash name inserted)
-                          collect (format "%s deleted %s, which no line inserts, so nothing was there to delete: %s"
+                          collect (format "%s deleted the element %s, which no line inserts, so nothing was there to delete: %s"
                                           named name "the name is wrong, or its insert was not recorded"))
      :past-end (nreverse past-end))))
 
@@ -1082,8 +1082,8 @@ A view is none."
 (defun domepeeler--unshown (warned late)
   (cl-loop for (replica . news) in late
            for viewed = (domepeeler--entries-viewed (aref (domepeeler--warned-entries warned) replica))
-           collect (format "replica %d received %s last, and shows no list%s after %s: let each replica read at the end"
-                           replica (domepeeler--listed news) (if viewed " but a view" "") (if (cdr news) "them" "that"))))
+           collect (format "replica %d shows no list%s after its last receipt%s, of %s: let each replica read at the end"
+                           replica (if viewed " but a view" "") (if (cdr news) "s" "") (domepeeler--listed news))))
 
 (defun domepeeler--news (recording warned replica)
   "The receipts since REPLICA's last list that bring changes.

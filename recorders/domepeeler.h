@@ -1539,10 +1539,10 @@ static inline void domepeeler_say_unshown(struct domepeeler_warned *w) {
         }
         if (!news) continue;
         entries->is_late = 1;
-        domepeeler_say(w->said, "replica %d received ", i);
+        domepeeler_say(w->said, "replica %d shows no list%s after its last receipt%s, of ", i, entries->is_viewed ? " but a view" : "",
+                       domepeeler_plural(news));
         domepeeler_say_changes(w->d, w->said, entries->arrived, news);
-        domepeeler_say(w->said, " last, and shows no list%s after %s: let each replica read at the end\n",
-                       entries->is_viewed ? " but a view" : "", news == 1 ? "that" : "them");
+        domepeeler_say(w->said, ": let each replica read at the end\n");
     }
 }
 
@@ -1567,7 +1567,7 @@ static inline void domepeeler_say_of_nothing(const struct domepeeler_warned *w) 
         const struct domepeeler_event *one = &w->deletes[i];
         if (bsearch(&one->name, w->inserted, w->inserts, sizeof *w->inserted, domepeeler_compare)) continue;
         if (count++ < DOMEPEELER_TOLD)
-            domepeeler_say(w->said, "line %zu, %d.%u: replica %d deleted %.*s, which no line inserts, so nothing was there to "
+            domepeeler_say(w->said, "line %zu, %d.%u: replica %d deleted the element %.*s, which no line inserts, so nothing was there to "
                                     "delete: the name is wrong, or its insert was not recorded\n", one->line, one->author, one->n,
                            one->author, (int)one->name.length, one->name.at);
     }

@@ -62,7 +62,7 @@ const LAST = "\nThe list specifications\n" // the title of the last section ther
 const WARNINGS = /^What this verdict may hide\n(?:  .*\n)*/m // a section there
 const NAMED = /\(line (\d+)\)/g // a line in a warning, whose place is put behind it
 // The statement for a debugger.
-const STATEMENT = /^(  stop before line (\d+) of the trace, .*)\n  In [A-Z][A-Za-z ]*, put the next line right before .*\n.*/gm
+const STATEMENT = /^(  stop before line (\d+) of the trace, .*)\n  In [A-Z][A-Za-z ]*, put this code right before .*\n.*/gm
 // A line of a stack, with the path or the URL of a file, and the line in it.
 const FRAME = /^ +at (?:async |.*\()?((?:[a-z]{2,}:\/\/|\/|[A-Za-z]:[\\/]).*:\d+):\d+\)?$/
 const OWN = String(import.meta.url)
@@ -951,7 +951,7 @@ function hidden(lines) {
           `a list of length ${names.length - 1}, so it counts as the end: is position ${words[3]} right?`)
       }
     } else if (kind === "del") {
-      deletes.push([words[2], `line ${line}, ${replica}.${n}: replica ${replica} deleted ${words[2]}, which no line inserts, so nothing ` +
+      deletes.push([words[2], `line ${line}, ${replica}.${n}: replica ${replica} deleted the element ${words[2]}, which no line inserts, so nothing ` +
         "was there to delete: the name is wrong, or its insert was not recorded"])
     }
   })
@@ -1044,8 +1044,8 @@ function receivedLast(ends) {
 }
 
 function unshown(ends, late) {
-  return [...late].map(([replica, news]) => `replica ${replica} received ${listing(news, news.length)} last, and shows no list` +
-    `${ends[replica].isViewed ? " but a view" : ""} after ${news.length === 1 ? "that" : "them"}: let each replica read at the end`)
+  return [...late].map(([replica, news]) => `replica ${replica} shows no list${ends[replica].isViewed ? " but a view" : ""} after its last ` +
+    `receipt${news.length === 1 ? "" : "s"}, of ${listing(news, news.length)}: let each replica read at the end`)
 }
 
 // The first of so many, and how many more there are.

@@ -77,7 +77,7 @@ LINE = re.compile(r"\bline (\d+)(?=[,):]| of the trace,| \(\d+ recv )")  # a lin
 LAST = "\nThe list specifications\n"  # the title of the last section there
 WARNINGS = re.compile(r"^What this verdict may hide\n(?:  .*\n)*", re.MULTILINE)  # a section there
 NAMED = re.compile(r"\(line (\d+)\)")  # a line in a warning, whose place is put behind it
-STATEMENT = re.compile(r"^(  stop before line (\d+) of the trace, .*)\n  In [A-Z][A-Za-z ]*, put the next line right before .*\n.*",
+STATEMENT = re.compile(r"^(  stop before line (\d+) of the trace, .*)\n  In [A-Z][A-Za-z ]*, put this code right before .*\n.*",
                        re.MULTILINE)  # for a debugger
 MOST_WARNED = 5  # deletes, or inserts, that are warned of one by one
 MOST_CHANGES = 3  # that are warned of one by one of those that a replica lacks, or has made nothing of
@@ -967,7 +967,7 @@ def _hidden(lines: List[str]) -> List[str]:
                 past_end.append(f"line {line}, {replica}.{n}: replica {replica} inserted {words[2]} at position {words[3]}, past the end of "
                                 f"a list of length {before}, so it counts as the end: is position {words[3]} right?")
         elif kind == "del":
-            deletes.append((words[2], f"line {line}, {replica}.{n}: replica {replica} deleted {words[2]}, which no line inserts, so nothing "
+            deletes.append((words[2], f"line {line}, {replica}.{n}: replica {replica} deleted the element {words[2]}, which no line inserts, so nothing "
                                       "was there to delete: the name is wrong, or its insert was not recorded"))
     of_nothing = [told for name, told in deletes if name not in inserted]
     silent = [f"replica {replica} has {'receipts, but no operation' if one.receipts else 'no entry'}: nothing that it showed is judged"
@@ -1061,8 +1061,8 @@ def _received_last(ends: List[_End]) -> Dict[int, List[str]]:
 
 
 def _unshown(ends: List[_End], late: Dict[int, List[str]]) -> List[str]:
-    return [f"replica {replica} received {_listing(news, len(news))} last, and shows no list{' but a view' if ends[replica].is_viewed else ''} "
-            f"after {'that' if len(news) == 1 else 'them'}: let each replica read at the end" for replica, news in late.items()]
+    return [f"replica {replica} shows no list{' but a view' if ends[replica].is_viewed else ''} after its last receipt{'' if len(news) == 1 else 's'}, "
+            f"of {_listing(news, len(news))}: let each replica read at the end" for replica, news in late.items()]
 
 
 def _listing(told: List[str], count: int) -> str:

@@ -1358,7 +1358,7 @@ impl<'a> Warned<'a> {
         }
         for (name, named) in deletes.into_iter().filter(|(name, _)| !inserted.contains(name)) {
             warned.of_nothing.push(format!(
-                "{named} deleted {name}, which no line inserts, so nothing was there to delete: \
+                "{named} deleted the element {name}, which no line inserts, so nothing was there to delete: \
                  the name is wrong, or its insert was not recorded"
             ));
         }
@@ -1511,10 +1511,9 @@ impl<'a> Warned<'a> {
 
     fn unshown(&self, late: &BTreeMap<usize, Vec<String>>) -> Vec<String> {
         let told = |(&replica, news): (&usize, &Vec<String>)| {
-            let what = if news.len() == 1 { "that" } else { "them" };
+            let (s, news) = (plural(news.len()), listed(news));
             let but = if self.replicas[replica].is_viewed { " but a view" } else { "" };
-            let news = listed(news);
-            format!("replica {replica} received {news} last, and shows no list{but} after {what}: let each replica read at the end")
+            format!("replica {replica} shows no list{but} after its last receipt{s}, of {news}: let each replica read at the end")
         };
         late.iter().map(told).collect()
     }

@@ -16,6 +16,7 @@ from shared.forger import line  # noqa: E402
 from shared.program import Ended, Tally, fault, program_of, report, run  # noqa: E402
 
 VECTORS = ROOT / "tests" / "vectors"
+STAND_IN = str(ROOT / "tests" / "reference" / "stand_in.py")
 
 DELETED = b"trace 1\nreplicas 1\n0 ins a 0 : a\n0 del a :\n0 read :\n"
 DELETED_REPORT = report(b"replicas 1 operations 3 inserts 1\naccepted\nstrong yes\nweak yes\norder : a\n")
@@ -262,6 +263,17 @@ def vectors(tally: Tally, program: str) -> None:
         wanted = fault(path.with_suffix(".fault").read_text().rstrip("\n"))
         for words in [], ["--json"]:
             tally.same(f"{path.name} {words}", run(program, ["verdict", *words, str(path)]), wanted)
+
+
+def stood_in(tally: Tally) -> None:
+    """What stands in for the program, until it is built, answers as the vectors have it."""
+    wrong, count = [], 0
+    for path in sorted([*VECTORS.glob("*.trace"), *VECTORS.glob("malformed/*.trace")]):
+        unread = path.with_suffix(".fault")
+        for words, wanted in [([], fault(unread.read_text().rstrip("\n")))] if unread.exists() else reports_of(path):
+            wrong += [] if run(STAND_IN, ["verdict", *words, str(path)]) == wanted else [path.name]
+            count += 1
+    tally.check("what stands in for the program: each vector, in both forms", count > 100 and not wrong, wrong)
 
 
 def workers(tally: Tally, program: str) -> None:
@@ -562,6 +574,7 @@ def main() -> None:
         views(tally, program, folder)
     malformed(tally, program)
     vectors(tally, program)
+    stood_in(tally)
     workers(tally, program)
     gallery(tally, program)
     embedding(tally)

@@ -20,7 +20,7 @@ from reference.traces import Lines  # noqa: E402
 from reference.verdicts import (Fault, Receipt, Recording, Report, Responses, Step, dotted, holds_what_is_visible,  # noqa: E402
                                 is_subsequence, recording_of, responses_of, stands_where_asked, with_names, written, yes)
 
-VERSION = "domepeeler 0.2.0"
+WORDS = Path(__file__).resolve().parents[2] / "crates" / "command_line" / "src" / "words.rt"  # which has the version
 WORKERS = "[1-9]|[1-5][0-9]|6[0-4]"  # 1 to 64
 
 
@@ -210,8 +210,9 @@ def answer(words: list) -> int:
     """Writes the report, and answers the exit status."""
     if any("\udc80" <= letter <= "\udcff" for word in words for letter in word):  # a byte that is no UTF-8
         raise NoReport("usage")
-    status, text = 0, f"{VERSION}\n"
-    if words not in (["--version"], ["-V"]):
+    if words in (["--version"], ["-V"]):
+        status, text = 0, "domepeeler " + re.findall('VERSION: &str = "(.*)"', WORDS.read_text())[0] + "\n"
+    else:
         file, is_json = asked_by(words)
         report = report_of(lines_of(file))
         status, text = 0 if report.kind == "accepted" else 1, report.json if is_json else report.text

@@ -63,10 +63,10 @@ def stop(line: int, doing: str, *others: int, together: int = 0) -> str:
     doing += f"; if nothing is wrong there, stop at {arrivals[len(others) > 1]} ({before})" if others else ""
     asked = f"if recording.lines() == {line - 1}: breakpoint()"
     where = "right before the call that reads the list" if "reads the list" in doing else "right before the call that makes the editor apply a change, local or remote"
-    or_first = f", and when {together - 1} have, in case one call applies lines {together} to {line} together" if together else ""
+    or_first = f", and already when {together - 1} have, in case one call applies lines {together} {'and' if together + 1 == line else 'to'} {line} together" if together else ""
     asked = f"if recording.lines() in ({together - 1}, {line - 1}): breakpoint()" if together else asked
     where += f". It stops when {line - 1} lines have been recorded{or_first}."
-    return f"|In a debugger|stop before line {line} of the trace, where {doing}.|In Python, put the next line {where}|{asked}"
+    return f"|In a debugger|stop before line {line} of the trace, where {doing}.|In Python, put this code {where}|{asked}"
 
 
 UNSHOWN = "let each replica read at the end"
@@ -120,8 +120,8 @@ WORDS = [
      "deleted. If replicas throw deleted elements away, nothing says then where the insert belongs; if they keep them, the search for its place must treat them like elements that are shown.|"
      "If the list is sorted by position identifiers, print those of r, s and z at line 22. If they do not rise in this order, look at how the identifier of s was made; if they do, at how "
      "identifiers are compared (numbers must not be compared as text).|If the editor sends positions, the position of s was perhaps not adjusted for the delete of a by 1.2 (line 9), the delete of b "
-     "by 1.4 (line 13), the delete of c by 1.6 (line 17) and the delete of r by 1.8 (line 21), which replica 1 knew and the author of s did not; or the positions of the deletes were not "
-     "adjusted for inserts that their authors had not seen." + stop(23, "replica 1 applies 0.8", 7)),
+     "by 1.4 (line 13), the delete of c by 1.6 (line 17) and the delete of r by 1.8 (line 21), which replica 1 knew and the author of s did not; or the position of one of these deletes was not "
+     "adjusted for an insert that its author had not seen (the insert of p by 0.5 (line 10), the insert of q by 0.6 (line 14) and the insert of r by 0.7 (line 18))." + stop(23, "replica 1 applies 0.8", 7)),
     ("a local delete whose change names another element than the one that is gone", 2, "0 ins a 0 : a|1 recv 0 1|1 ins b 1 : a b|1 del a : b|1 del c :",
      "Where to look|1.3 (line 7) deletes c; but c does not stand in 1.2 (line 6) and no line inserts it, while b is gone. Look at which ids a local delete puts into "
      "the change that it sends: where it deletes several, each element has an id of its own, and these need not be consecutive." + stop(7, "replica 1 deletes c", together=6)),
@@ -232,7 +232,7 @@ WORDS = [
      "Look at positions beside deleted elements: any two of 2.1, 0.3 and 1.1 fit together, but not all three; perhaps an insert lost its place "
      "because its neighbour was deleted meanwhile. Look first at where replica 0 placed b in line 10: it belongs beside x, which had been deleted there.|"
      "For the verdict on the whole trace: look at where a replica places an incoming insert beside a deleted element: [a] was put before [x] (1.1, line 6), and [b] behind it (2.1, line 7), so [x] settles their order, also where it is deleted; yet 0.3 (line 11) shows them the other way round. The rule for concurrent inserts must not decide this.|For the verdict on the whole trace: if the list is sorted by position identifiers, look at those of a and b: are the two equal, does one differ between replicas, are numbers compared as text, or is one of them not between the identifiers of its neighbours?|For the verdict on the whole trace: if the editor sends positions, the position of b was perhaps not adjusted for the delete of x by 0.2 (line 8), which replica 1 "
-     "knew and the author of b did not; or the position of the delete was not adjusted for an insert that the author of the delete had not seen.|"
+     "knew and the author of b did not; or the position of that delete was not adjusted for the insert of a by 1.1 (line 6), which its author had not seen.|"
      "" + stop(10, "replica 0 applies 2.1", 9, 5, 4, together=9) + "||What the whole trace shows: a circle, which no order allows|"
      "[a] before [b]: line 14, 1.2: replica 1 read the list, answered [a] [b]|"
      "[b] before [a]: line 11, 0.3: replica 0 read the list, answered [b] [a]"),
@@ -270,7 +270,7 @@ WORDS = [
      "line 7 of the trace, 2.1: replica 2 read the list|answered: b|it should hold, in any order: b [a]|"
      "before it: replica 2 did nothing, and received 1.1 (line 6)|Missing|"
      "[a] inserted by 0.1 (line 3), which arrived at replica 1 in line 4 (1 recv 0 1). "
-     "Replica 2 should have had it since line 6 (2 recv 1 1): the author of 1.1 had it|[a] 0.1 has no receipt of its own at replica 2, though the author of 1.1 had it. So "
+     "Replica 2 should have had it since line 6 (2 recv 1 1): the author of 1.1 had it, so 1.1 must not arrive before it|[a] 0.1 has no receipt of its own at replica 2, though the author of 1.1 had it. So "
      "either the message of line 6 carried 0.1 too, or 1.1 came before 0.1, which is not causal order|[a] is never deleted||Where to look|"
      "Look first at whether 0.1 was lost on its way to replica 2: no receipt there names it. If it was not lost but overtaken, look at the order in which "
      "operations arrive. Your editor may be right, but it needs operations in causal order: apply an operation only after everything that its author had seen, or send all of that along with it. If the editor itself holds "
@@ -287,11 +287,11 @@ WORDS = [
      "answered: (nothing)|it should hold, in any order: [a]|"
      "before it: replica 0's 0.1 (line 3) answered [a], which holds what it should; since then it received nothing|"
      "[a] inserted by 0.1 (line 3), an earlier operation of replica 0|"
-     "[a] deleted by 1.1 (line 5), which replica 0 got only in line 7 (0 recv 1 1), after this response" + stop(6, "replica 0 reads the list")),
+     "[a] deleted by 1.1 (line 5), which replica 0 got only after this response, in line 7 (0 recv 1 1)" + stop(6, "replica 0 reads the list")),
     ("a deleted element shown", 2, "0 ins a 0 : a|0 del a :|1 recv 0 2|1 read : a",
      "contents 1.1: this response has one element that should not be there.|"
      "answered: [a]|it should hold, in any order: (nothing)|Extra|"
-     "[a] inserted by 0.1 (line 3). Replica 1 should have had it since line 5 (1 recv 0 2): 0.2 is a later operation of its author|"
+     "[a] inserted by 0.1 (line 3). Replica 1 should have had it since line 5 (1 recv 0 2): 0.2 is a later operation of the same author, so 0.2 must not arrive before it|"
      "[a] deleted by 0.2 (line 4), which arrived at replica 1 in line 5 (1 recv 0 2)"),
     ("a deleted element shown, beside one that was there", 2, "0 ins a 0 : a|0 ins b 1 : a b|1 recv 0 2|1 read : a b|0 del b : a|1 recv 0 3|1 read : a b",
      "contents 1.2: this response has one element that should not be there.|answered: a [b]|it should hold, in any order: a|Extra|"
@@ -315,7 +315,7 @@ WORDS = [
     ("a delete that hits what is deleted already", 2, "0 ins a 0 : a|0 ins b 1 : a b|1 recv 0 2|1 read : a b|1 del a : b|0 del b : a|1 recv 0 3|1 read : b",
      "It looks as if 0.3 (line 8) was not applied at replica 1: lost, or held back, or `received` is called before the change is applied. Or that delete hit another element, one that was already deleted there: look at how a replica that applies a delete finds the element (is the whole id compared?)."),
     ("a change that is applied twice", 2, "0 ins a 0 : a|0 ins b 1 : a b|1 recv 0 2|1 read : a b a", "Named more than once|"
-     "[a] inserted by 0.1 (line 3). Replica 1 should have had it since line 5 (1 recv 0 2): 0.2 is a later operation of its author||Where to look|"
+     "[a] inserted by 0.1 (line 3). Replica 1 should have had it since line 5 (1 recv 0 2): 0.2 is a later operation of the same author, so 0.2 must not arrive before it||Where to look|"
      "It looks as if 0.1 (line 3) was applied twice at replica 1: look at what the editor does with a change that arrives a second time, and at "
      "whether a change that was held back is applied twice: on arrival and again later."),
     ("its own changes that come back", 1, "0 ins a 0 : a|0 ins b 1 : a b|0 read : a b a b", "Named more than once||Where to look|"
@@ -338,8 +338,8 @@ WORDS = [
      "[a] before [c]: line 5 of the trace, 0.3: replica 0 inserted c at position 2, answered [a] b [c]|"
      "[c] before [a]: line 7, 1.1: replica 1 showed a part of the list, answered [c] [a]"),
     ("accepted, with a view", 2, "0 ins a 0 : a|0 ins b 1 : a b|1 recv 0 2|1 view : b",
-     "accepted, with a warning: all 3 responses fit one order of the elements.||What this verdict may hide|replica 1 received 0.2 (line 5) last, "
-     f"and shows no list but a view after that: {UNSHOWN}||One order that fits all responses (deleted elements included)|a b"),
+     "accepted, with a warning: all 3 responses fit one order of the elements.||What this verdict may hide|replica 1 shows no list but a view "
+     f"after its last receipt, of 0.2 (line 5): {UNSHOWN}||One order that fits all responses (deleted elements included)|a b"),
     ("past the end, elsewhere", 1, "0 ins a 0 : a|0 ins b 4294967295 : b a",
      "position 0.2: b is not at the position that was asked for.|"
      "line 4 of the trace, 0.2: replica 0 inserted b at position 4294967295|answered: [b] [a]|"
@@ -381,14 +381,14 @@ WORDS = [
      "[c] inserted by 0.3 (line 7), which arrived at replica 1 in line 9 (1 recv 0 3)|"
      "[c] was put behind a and before b. When it arrived at replica 1 in line 9, a was already deleted there by 1.2 (line 8)|[c] is never deleted||"
      "Where to look|"
-     "If inserts find their place by a neighbour, look at inserts beside deleted elements: when c arrived, its neighbour was already deleted there: a, by 1.2 (line 8). An editor that throws deleted elements "
+     "If inserts find their place by a neighbour, look at inserts beside deleted elements: when c arrived, its neighbour was already deleted there: a (by 1.2, line 8). An editor that throws deleted elements "
      "away too early finds no place for it, and loses it or holds it back for ever." + stop(9, "replica 1 applies 0.3")),
     ("an element lost beside two that are there", 2, "0 ins a 0 : a|0 ins b 1 : a b|0 ins c 1 : a c b|1 recv 0 3|1 read : a b",
      "[c] was put behind a and before b. When it arrived at replica 1 in line 6, a and b were still there"),
     ("a change that a later one of its author overtook", 2, "0 ins a 0 : a|0 ins b 1 : a b|0 ins c 2 : a b c|1 recv 0 1|1 recv 0 3|1 read : a c|1 recv 0 2|"
      "1 read : a b c",
      "contents 1.1: this response lacks one element that replica 1 should have had by then.|Missing|"
-     "[b] inserted by 0.2 (line 4). Replica 1 should have had it since line 7 (1 recv 0 3): 0.3 is a later operation of its author|"
+     "[b] inserted by 0.2 (line 4). Replica 1 should have had it since line 7 (1 recv 0 3): 0.3 is a later operation of the same author, so 0.3 must not arrive before it|"
      "[b] 0.2's own receipt comes only in line 9 (1 recv 0 2). 0.3 overtook it in line 7: that is not causal order|[b] is never deleted|"
      "Look at the order in which operations arrive: 0.2 was overtaken, as told above. Your editor may be right, but it needs operations in causal order: apply an operation only after everything that its author had seen, or send all of that along with it. If the editor itself holds "
      f"operations back, write the receipt of each only when it is applied. {GUIDE} shows what to record in each case."
@@ -397,7 +397,7 @@ WORDS = [
      "1 read : a|1 recv 0 3|1 read : a c|1 recv 0 4|1 read : a c d",
      "[b] 0.2 has no receipt of its own at replica 1, though all other changes of replica 0 have one. 0.2 was lost, or 0.3 overtook it in line 9"),
     ("one receipt for several changes of an author", 2, "0 ins a 0 : a|0 ins b 1 : a b|0 ins c 2 : a b c|1 recv 0 3|1 read : a c",
-     "[b] inserted by 0.2 (line 4). Replica 1 should have had it since line 6 (1 recv 0 3): 0.3 is a later operation of its author|"
+     "[b] inserted by 0.2 (line 4). Replica 1 should have had it since line 6 (1 recv 0 3): 0.3 is a later operation of the same author, so 0.3 must not arrive before it|"
      "[b] was put behind a. When it arrived at replica 1 in line 6, a was still there|[b] is never deleted||Where to "
      "look|It looks as if 0.2 (line 4) was not applied at replica 1: lost, or held back, or `received` is called before the change is applied.|No "
      "receipt at replica 1 names 0.2 (line 4): it counts as arrived with 0.3, in line 6. If you record a receipt for each change, 0.2 was "
@@ -559,7 +559,7 @@ FAULTS = [
     (b"trace 1\nreplicas 1\n0 ins a,1 0 : a,1\n", "line 3: shape",
      "`a,1`, after `ins`, is not a name (1 to 32 letters, digits, `_`, `-` or `.`)"),
     (b"trace 1\nreplicas 1\n0 ins a first : a\n", "line 3: shape",
-     "after the element stands `first`; its position belongs there, a number (digits without leading zeros, at most 4294967295)"),
+     "behind the element stands `first`, but its position belongs there: a number (digits without leading zeros, at most 4294967295)"),
     (b"trace 1\nreplicas 1\n0 read : a@1\n", "line 3: shape",
      "`a@1`, in the response, is not a name (1 to 32 letters, digits, `_`, `-` or `.`)"),
     (b"trace 1\nreplicas 1\n0 read : \xc3\xa4\n", "line 3: shape",
@@ -631,7 +631,7 @@ PLANTED = {
     "tie": (100, 50, ["order of concurrent inserts", "rule that orders concurrent inserts", "That order must hold everywhere"]),
     "clock": (300, 20, ["decides by numbers (a clock, ids) which of two inserts", "the clock that decides between inserts"]),
     "mapping": (150, 40, ["perhaps not adjusted for the delete", "perhaps not adjusted for the insert"]),
-    "unmoved": (80, 40, [" was perhaps not adjusted for", "not adjusted for an insert", "not adjusted for inserts"]),
+    "unmoved": (80, 40, [" was perhaps not adjusted for", "was not adjusted for an insert", "was not adjusted for the insert"]),
     "behind": (80, 40, ["order of concurrent inserts", " concurrently: check also that "]),
     "twice": (500, 10, ["was already deleted there, by"]),
     "overtaking": (100, 50, ["overtook it in line"]),
@@ -659,9 +659,9 @@ WARNED = [
      "replica 1 has no entry: nothing that it showed is judged"),
     ("a replica with receipts alone", 2, "0 ins a 0 : a|1 recv 0 1",
      "replica 1 has receipts, but no operation: nothing that it showed is judged"),
-    ("a delete of what nothing inserts", 1, "0 ins a 0 : a|0 del A : a|0 del a :", "line 4, 0.2: replica 0 deleted A" + NO_INSERT),
+    ("a delete of what nothing inserts", 1, "0 ins a 0 : a|0 del A : a|0 del a :", "line 4, 0.2: replica 0 deleted the element A" + NO_INSERT),
     ("seven of them", 2, "1 read :|" + "|".join(f"0 del a{i} :" for i in range(7)) + "|1 recv 0 7|1 read :",
-     "|".join(f"line {i + 4}, 0.{i + 1}: replica 0 deleted a{i}" + NO_INSERT for i in range(5))
+     "|".join(f"line {i + 4}, 0.{i + 1}: replica 0 deleted the element a{i}" + NO_INSERT for i in range(5))
      + "|and 2 more deletes of elements that no line inserts"),
     ("an insert past the end", 1, "0 ins a 0 : a|0 ins b 2 : a b|0 ins c 2 : a b c|0 ins d 4294967295 : a b c d",
      f"line 4, 0.2: replica 0 inserted b at position 2, past the end of a list of length 1, so it counts as the end: is position 2 right?|"
@@ -670,20 +670,20 @@ WARNED = [
      f"in the end replicas 0 and 1 show different lists|replica 0 never hears of replica 1: {UNHEARD}|replica 1 never hears of replica 0: {UNHEARD}"),
     ("one that never hears of three others", 4, "0 ins a 0 : a|1 del a :|1 recv 0 1|2 ins c 0 : c|2 recv 1 1|2 recv 0 1|0 recv 2 1|"
      "0 recv 1 1|1 recv 2 1|3 read :",
-     f"replica 0 received 2.1 (line 9) and 1.1 (line 10) last, and shows no list after them: {UNSHOWN}|"
-     f"replica 1 received 0.1 (line 5) and 2.1 (line 11) last, and shows no list after them: {UNSHOWN}|"
-     f"replica 2 received 1.1 (line 7) and 0.1 (line 8) last, and shows no list after them: {UNSHOWN}|"
+     f"replica 0 shows no list after its last receipts, of 2.1 (line 9) and 1.1 (line 10): {UNSHOWN}|"
+     f"replica 1 shows no list after its last receipts, of 0.1 (line 5) and 2.1 (line 11): {UNSHOWN}|"
+     f"replica 2 shows no list after its last receipts, of 1.1 (line 7) and 0.1 (line 8): {UNSHOWN}|"
      f"in the end replicas 0, 1, 2 and 3 do not all show the same list (1 and 3 do)|replica 3 never hears of replicas 0, 1 and 2: {UNHEARD}"),
     ("one that hears of a read alone", 2, "0 read :|1 recv 0 1|1 read :|0 ins a 0 : a",
      f"in the end replicas 0 and 1 show different lists|replica 1 never hears of replica 0: {UNHEARD}"),
     ("all hear by way of a third", 3, "0 ins a 0 : a|2 recv 0 1|2 read : a|1 ins b 0 : b|1 recv 2 1|2 recv 1 1|2 read : b a|0 recv 2 2|"
      "0 read : b a|1 read : b a", ""),
     ("one that hears at the end", 2, "0 ins a 0 : a|1 read :|1 recv 0 1",
-     f"replica 1 received 0.1 (line 5) last, and shows no list after that: {UNSHOWN}|{NOT_READ}"),
+     f"replica 1 shows no list after its last receipt, of 0.1 (line 5): {UNSHOWN}|{NOT_READ}"),
     ("one that hears at the end, and shows a part", 2, "0 ins a 0 : a|1 recv 0 1|1 view :",
-     f"replica 1 received 0.1 (line 4) last, and shows no list but a view after that: {UNSHOWN}"),
+     f"replica 1 shows no list but a view after its last receipt, of 0.1 (line 4): {UNSHOWN}"),
     ("a receipt before a view and one behind it", 2, "0 ins a 0 : a|1 read :|1 recv 0 1|1 view : a|0 ins b 0 : b a|1 recv 0 2",
-     f"replica 1 received 0.1 (line 5) and 0.2 (line 8) last, and shows no list after them: {UNSHOWN}|{NOT_READ}"),
+     f"replica 1 shows no list after its last receipts, of 0.1 (line 5) and 0.2 (line 8): {UNSHOWN}|{NOT_READ}"),
     ("a list between a receipt and a view", 2, "0 ins a 0 : a|1 recv 0 1|1 read : a|1 view : a", ""),
     ("one that reads is not heard of", 2, "0 ins a 0 : a|1 recv 0 1|1 read : a", ""),
     ("a delete before its insert", 2, "0 ins a 0 : a|1 del a :|1 recv 0 1|1 read :|0 recv 1 1|0 read :", ""),
@@ -698,7 +698,7 @@ WARNED = [
      "in the end replicas 0, 1 and 2 show different lists: 0.2 (line 8), 0.3 (line 9), 0.4 (line 10) and 1 more never arrived at replica 1; "
      f"0.4 (line 10) and 0.5 (line 11) never arrived at replica 2 in this recording. {THEY}"),
     ("one that makes nothing of what came last", 2, "0 ins a 0 : a|1 recv 0 1|1 read : a|0 ins b 1 : a b|0 read : a b|1 recv 0 3",
-     f"replica 1 received 0.3 (line 8) last, and shows no list after that: {UNSHOWN}|{NOT_READ}"),
+     f"replica 1 shows no list after its last receipt, of 0.3 (line 8): {UNSHOWN}|{NOT_READ}"),
     ("one that receives what it has", 2, "0 ins a 0 : a|1 recv 0 1|1 read : a|0 read : a|1 recv 0 2|1 recv 0 1", ""),
     ("lists in other orders", 2, "0 ins a 0 : a|0 ins b 1 : a b|1 recv 0 2|1 read : a b", ""),
 ]
@@ -741,33 +741,33 @@ PLACES = [
 # A session whose end `delivered` wrote, in lines 9 to 11: replica 1 never applied 0.2 and 0.3, and shows nothing wrong before.
 UNDELIVERED = "0 ins a 0 : a|1 recv 0 1|1 read : a|0 ins b 1 : a b|0 del a : b|0 read : b|0 read : b|1 recv 0 3|1 read : a"
 UNDELIVERED_WORDS = """Missing
-[b] inserted by 0.2 (line 6). Replica 1 should have had it since line 10 (1 recv 0 3, which `delivered` wrote): 0.3 is a later operation of its author
+[b] inserted by 0.2 (line 6). Replica 1 should have had it since line 10 (1 recv 0 3, written by the call `delivered`): 0.3 is a later operation of the same author, so 0.3 must not arrive before it
 [b] is never deleted
 
 Extra
 [a] inserted by 0.1 (line 3), which arrived at replica 1 in line 4 (1 recv 0 1)
-[a] deleted by 0.3 (line 7), which arrived at replica 1 in line 10 (1 recv 0 3, which `delivered` wrote)
+[a] deleted by 0.3 (line 7), which arrived at replica 1 in line 10 (1 recv 0 3, written by the call `delivered`)
 
 Where to look
-Only `delivered` (line 10) says that 0.2 (line 6) arrived at replica 1; no response before shows it. It was lost, or is held back for ever (\
-0.3 (line 7), made later, perhaps waits for it); or `delivered` was called too early. Look at what keeps changes waiting.
+It looks as if 0.2 (line 6) never reached replica 1: no response there shows it, and only what the call `delivered` wrote (line 10) says that it arrived. \
+It was lost, or is held back for ever; or `delivered` was called too early. Later changes perhaps wait for it: 0.3 (line 7). Look at what keeps changes waiting.
 
 In a debugger
 stop before line 6 of the trace, where replica 0 inserts b, and follow 0.2 to replica 1.
-In Python, put the next line right before the call that makes the editor apply a change, local or remote. It stops when 5 lines have been recorded.
+In Python, put this code right before the call that makes the editor apply a change, local or remote. It stops when 5 lines have been recorded.
 if recording.lines() == 5: breakpoint()
 
 The list specifications
 """
 STATEMENTS = [
-    ("", "In Python, put the next line {}. It stops when 6 lines have been recorded.\n    if recording.lines() == 6: breakpoint()"),
-    ("language python\n", "In Python, put the next line {}. It stops when 6 lines have been recorded.\n    if recording.lines() == 6: breakpoint()"),
-    ("language javascript\n", "In JavaScript, put the next line {}. It stops when 6 lines have been recorded.\n    if (recording.lines() === 6) debugger"),
-    ("language rust\n", 'In Rust, put the next line {}. It stops when 6 lines have been recorded.\n    if recording.lines() == 6 {{ eprintln!("here") }} (on three lines, and set a breakpoint on the middle one)'),
-    ("language c\n", "In C, put the next line {}. It stops when 6 lines have been recorded.\n    if (domepeeler_lines(recording) == 6) raise(SIGTRAP);"),
-    ("language emacs-lisp\n", "In Emacs Lisp, put the next line {}. It stops when 6 lines have been recorded.\n    (when (= (domepeeler-lines recording) 6) (debug))"),
-    ("language cobol\n", "In Python, put the next line {}. It stops when 6 lines have been recorded.\n    if recording.lines() == 6: breakpoint()"),
-    ("language rust\nlanguage c\n", 'In Rust, put the next line {}. It stops when 6 lines have been recorded.\n    if recording.lines() == 6 {{ eprintln!("here") }} (on three lines, and set a breakpoint on the middle one)'),
+    ("", "In Python, put this code {}. It stops when 6 lines have been recorded.\n    if recording.lines() == 6: breakpoint()"),
+    ("language python\n", "In Python, put this code {}. It stops when 6 lines have been recorded.\n    if recording.lines() == 6: breakpoint()"),
+    ("language javascript\n", "In JavaScript, put this code {}. It stops when 6 lines have been recorded.\n    if (recording.lines() === 6) debugger"),
+    ("language rust\n", 'In Rust, put this code {}. It stops when 6 lines have been recorded.\n    if recording.lines() == 6 {{ eprintln!("here") }} (on three lines, and set a breakpoint on the middle one)'),
+    ("language c\n", "In C, put this code {}. It stops when 6 lines have been recorded.\n    if (domepeeler_lines(recording) == 6) raise(SIGTRAP);"),
+    ("language emacs-lisp\n", "In Emacs Lisp, put this code {}. It stops when 6 lines have been recorded.\n    (when (= (domepeeler-lines recording) 6) (debug))"),
+    ("language cobol\n", "In Python, put this code {}. It stops when 6 lines have been recorded.\n    if recording.lines() == 6: breakpoint()"),
+    ("language rust\nlanguage c\n", 'In Rust, put this code {}. It stops when 6 lines have been recorded.\n    if recording.lines() == 6 {{ eprintln!("here") }} (on three lines, and set a breakpoint on the middle one)'),
 ]
 # By language the statement before the second of two receipts, in lines 5 and 6, that stand together.
 FOR_TWO = {
@@ -1002,7 +1002,7 @@ def beginning(tally: Tally, program: str, text: str, report: dict, said: str) ->
     tally.check("refused: what it showed then, and the whole trace", steps == wanted, f"{text}{report}\n{said}")
     titles = [line for line in front.splitlines() if line.startswith("What the")]
     tally.check("refused: under which title", titles == ["What these responses show: a circle, which no order allows"], said)
-    others = "the same verdict, because of other responses" if behind["k"] == report["k"] else f"another verdict, `refused {report['k']}`, which is explained below"
+    others = "the same verdict, but its report names other responses" if behind["k"] == report["k"] else f"another verdict, `refused {report['k']}`, which is explained below"
     ending = f" This fault comes first, in lines 1 to {last}: start with it. The whole trace has {others}."
     headline = said.splitlines()[0]
     tally.check("refused: the whole trace's number", (ending in headline if is_other else "This is what went wrong first" not in headline)
@@ -1217,7 +1217,7 @@ def places(tally: Tally, program: str, folder: str) -> None:
     for name, wanted in FOR_TWO.items():
         got = explain(program, ["--language", name, "-"], text_of(2, "0 ins a 0 : a|0 ins b 1 : a b|1 recv 0 1|1 recv 0 2|1 read : a").encode()).out.decode()
         tally.check(f"a debugger: {name}, receipts that stand together", paragraph(got, "In a debugger").endswith(
-            f". It stops when 5 lines have been recorded, and when 4 have, in case one call applies lines 5 to 6 together.\n    {wanted}"), got)
+            f". It stops when 5 lines have been recorded, and already when 4 have, in case one call applies lines 5 and 6 together.\n    {wanted}"), got)
     undelivered(tally, program, folder)
     path.write_text(text_of(2, PLACED))
     for beside, wanted in NOTES:
@@ -1246,7 +1246,7 @@ def undelivered(tally: Tally, program: str, folder: str) -> None:
         tally.check(f"undelivered: {name}", UNDELIVERED_WORDS in told, said)
     kept = small.read_text().splitlines()[2:], Path(f"{small}.lines").read_text().splitlines()
     again = explain(program, [str(small)]).out.decode()
-    tally.check("undelivered: the small trace says the same", "Only `delivered` (line " in again and kept[1][0] == str(2 + len(kept[0])), (kept, again))
+    tally.check("undelivered: the small trace says the same", "only what the call `delivered` wrote (line " in again and kept[1][0] == str(2 + len(kept[0])), (kept, again))
     for beside in "11\n", "11\ndelivered 3 3\n", "11\ndelivered x\n":
         Path(f"{path}.lines").write_text(beside)
         said = explain(program, [str(path)]).out.decode()
@@ -1768,7 +1768,7 @@ FIRST_TOLD = {
         "[l] was put directly behind n (0.1 (line 3)), and n and [o] were inserted at the front without knowing of each other. n is deleted at replica 0, which never showed n and [o] together: perhaps it still keeps n, but on the other side of [o] than replica 2 has it. Then "
         "[l], put rightly beside n, stands there too. So look first at where these concurrent inserts were put when they arrived: n in line 5 (replica 2), o in line 6 (replica 2) and o in line 10 (replica 0)."),
     "one replica alone in its order": ("positions", 3, "2 ins a 0 : a|2 ins b 0 : b a|1 ins c 0 : c|2 recv 1 1|2 read : b c a|0 recv 1 1|0 recv 2 1|0 read : a c|1 recv 2 1|1 read : a c",
-        "Replicas 0 and 1 show a before c. Replica 2 alone shows them the other way round, first in 2.3 (line 7): so look first at what it did in line 6, when 1.1 came. When 1.1 arrived, replica 2 had two changes of its own that the author of 1.1 did not know yet: the insert of a by 2.1 (line 3) and the insert of b by 2.2 (line 4). Adjust 1.1 and the first of these for each other. Then adjust the 1.1 that results, and the second of these, for each other; and so on. Changes that still wait to be sent count too."),
+        "Replicas 0 and 1 show a before c. Replica 2 alone shows them the other way round, first in 2.3 (line 7): so look first at what it did in line 6, when 1.1 came. When 1.1 arrived, replica 2 had two changes of its own that the author of 1.1 did not know yet: the insert of a by 2.1 (line 3) and the insert of b by 2.2 (line 4). 1.1 must be adjusted for each of these in turn, and each of these for 1.1 as it is by then. Changes that still wait to be sent count too."),
     "one replica alone, with one change on its way": ("positions", 3, "2 ins a 0 : a|1 ins c 0 : c|2 recv 1 1|2 read : c a|0 recv 1 1|0 recv 2 1|0 read : a c|1 recv 2 1|1 read : a c",
         "Replicas 0 and 1 show a before c. Replica 2 alone shows them the other way round, first in 2.2 (line 6): so look first at what it did in line 5, when 1.1 came. When 1.1 arrived, replica 2 had one change of its own that the author of 1.1 did not know yet, the insert of a by 2.1 (line 3): this and 1.1 must each be adjusted for the other."),
     "an order that its author knew, with one change on its way": ("positions", 2, "0 ins a 0 : a|1 recv 0 1|1 read : a|1 ins c 1 : a c|0 ins b 0 : b a|1 recv 0 2|1 read : a b c",
@@ -1786,7 +1786,7 @@ FIRST_TOLD = {
         "replica 2.\n"),
     "a third replica that has not applied it either": ("neighbours", 3, "0 ins a 0 : a|1 recv 0 1|1 read :|2 recv 0 1|2 read :",
         "It looks as if 0.1 (line 3) was not applied at replica 1: lost, or held back, or `received` is called before the change is applied. Replica 2 has not applied 0.1 either, as 2.1 (line 7) shows: so "
-        "look first at what is sent.\n"),
+        "look also at what is sent.\n"),
     "a change that is shown later, with nothing between": ("neighbours", 2, "0 ins a 0 : a|1 recv 0 1|1 read :|1 ins b 0 : b a",
         "It looks as if 0.1 (line 3) was not applied at replica 1: lost, or held back, or `received` is called before the change is applied. But 1.2 (line 6) shows it applied, though nothing was received in "
         "between: so it had arrived, and the list shown before was out of date. Is each list that is kept for showing, such as a cache, made anew after every change, remote ones too?\n"),
@@ -1829,13 +1829,13 @@ def first_told(tally: Tally, program: str, folder: str) -> None:
     for kind in "positions", "neighbours":
         told = explain(program, ["--editor", kind, str(path)]).out.decode()
         waited = "Between 1.2 and its first arrival elsewhere (line 15) replica 1 received 0.3 (line 11): so stop before line 11 too, and look at how the replica's own changes that are still on their way"
-        tally.check(f"first told: {kind}: a change that its author had adjusted", (waited in told) == (kind == "positions") and "Replica 2 has not applied 1.2 either, as 2.3 (line 18) shows: so look first "
+        tally.check(f"first told: {kind}: a change that its author had adjusted", (waited in told) == (kind == "positions") and "Replica 2 has not applied 1.2 either, as 2.3 (line 18) shows: so look also "
                     "at what is sent" in told, told)
     path.write_text(text_of(3, "0 ins a 0 : a|0 ins b 1 : a b|1 recv 0 2|2 recv 0 2|1 read : a b|2 read : a b|0 del a : b|1 recv 0 3|1 read : a|2 recv 0 3|2 read : a"))
     for kind, server in ("positions", ", and at what the server (if it adjusts positions) makes of that"), ("neighbours", ""):
         told = explain(program, ["--editor", kind, str(path)]).out.decode()
         tally.check(f"first told: {kind}: a delete that is wrong at two replicas", f"Replica 2 lacks b too, in 2.2 (line 13): so look first at what is sent{server}, and only then at replica 1. It looks as if" in told, told)
-    own = "When 0.2 arrived, replica 1 had two changes of its own that the author of 0.2 did not know yet: the insert of b by 1.2 (line 6) and the delete of a by 1.3 (line 7). Adjust 0.2 and the first of these for each other. Then adjust the 0.2 that results, and the second of these, for each other; and so on."
+    own = "When 0.2 arrived, replica 1 had two changes of its own that the author of 0.2 did not know yet: the insert of b by 1.2 (line 6) and the delete of a by 1.3 (line 7). 0.2 must be adjusted for each of these in turn, and each of these for 0.2 as it is by then."
     twice = "0 ins a 0 : a|1 recv 0 1|1 read : a|1 ins b 1 : a b|1 del a : b|0 del a :|1 recv 0 2|1 read :"
     for name, entries, lacks in ("alone", "", False), ("and a third that has got its delete", "|2 recv 1 3|2 recv 0 2|2 read :", False), ("and a third that hasn't", "|2 recv 1 2|2 recv 0 2|2 read :", True):
         path.write_text(text_of(3, twice + entries))

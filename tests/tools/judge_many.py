@@ -94,7 +94,7 @@ WARNINGS = {
     "more": re.compile(r"and (\d+) more (?:deletes? of|inserts? past) "),
     "unheard": re.compile(r"replica (\d+) never hears of replicas? ([\d, and]+): "),
     "ends": re.compile(r"(in the end replicas [\d, and]+ (?:show different lists|do not all show the same list)|in this recording )"),
-    "unshown": re.compile(r"replica (\d+) received .* last, and shows no list(?: but a view)? after (?:that|them): "),
+    "unshown": re.compile(r"replica (\d+) shows no list(?: but a view)? after its last receipts?, of "),
 }
 LACKED = re.compile(r"((?:\d+\.\d+ \(line \d+\)(?:, | and )?|\d+ more )+) ?never arrived at replicas? (\d+(?:(?:, | and )\d+(?!\d|\.\d))*)")
 NAMED = re.compile(r"(\d+)\.(\d+) \(line (\d+)\)")
@@ -385,18 +385,18 @@ TIED = "0 ins a 0 : a|1 ins b 0 : b|0 recv 1 1|0 read : a b|1 recv 0 1|1 read :"
 IN_TURN = "0 ins a 0 : a|1 recv 0 1|1 ins b 1 : a b|0 recv 1 1|0 read : a b|1 read : a b|0 ins c 2 : a b c|1 recv 0 3|1 read : a b c"
 IN_COMMON = {
     "deleted twice": ([(5, BEGUN_TWICE)], [(2, RIGHT_TWICE), (10, RIGHT_ONCE)], [
-        "  a delete arrived whose element was deleted there already: this came before the wrong list in all 5, and in 2 sessions that pass",
-        "  a change arrived whose author had not seen one of the receiver's own changes: this came before the wrong list in all 5, and in 2 sessions that pass"]),
+        "  a delete arrived whose element was deleted there already: this came before the wrong list in all 5; 2 of the 12 that pass have it too",
+        "  a change arrived whose author lacked at least one of the receiver's own changes: this came before the wrong list in all 5; 2 of the 12 that pass have it too"]),
     # Of 48 correct lists 12 come so: one in each failing session, two in each of the four that pass.
     "at one place": ([(4, f"{TIED} b a")], [(4, f"{TIED} a b"), (4, IN_TURN)], [
         "  an insert arrived at a place where an element stood that the insert's author had not seen: this came just before the wrong list in all 4, and just before 25 % of the correct lists",
-        "  a change arrived whose author had not seen one of the receiver's own changes: this came just before the wrong list in all 4, and just before 25 % of the correct lists",
+        "  a change arrived whose author lacked at least one of the receiver's own changes: this came just before the wrong list in all 4, and just before 25 % of the correct lists",
         "  Up to where they fail, 4 of the 4 have no deletes: so the bug does not need these."]),
     "none that pass, and few lists": ([(3, BEGUN_ONCE)], [], []),
     # Of 24 correct lists 8 come so.
     "none that pass": ([(8, f"{TIED} b a")], [], [
         "  an insert arrived at a place where an element stood that the insert's author had not seen: this came just before the wrong list in all 8, and just before 33 % of the correct lists",
-        "  a change arrived whose author had not seen one of the receiver's own changes: this came just before the wrong list in all 8, and just before 33 % of the correct lists",
+        "  a change arrived whose author lacked at least one of the receiver's own changes: this came just before the wrong list in all 8, and just before 33 % of the correct lists",
         "  Up to where they fail, 8 of the 8 have no deletes: so the bug does not need these."]),
     "too few": ([(2, BEGUN_TWICE)], [(10, RIGHT_ONCE)], []),
     "nothing stands out": ([(3, BEGUN_TWICE)], [(9, RIGHT_TWICE)], []),
@@ -771,7 +771,7 @@ def warnings(tally: Tally, program: str, folder: str) -> None:
     tally.check("noted: the column", [cells(line)[7] for line in lines[:4]] == ["noted", "-", "-", "seed 17"], lines)
     tally.check("unequal: the verdict, and the count", [cells(line)[1] for line in lines[1:4]] == ["failed", "accepted, unequal", "accepted"]
                 and lines[4:] == ["3 traces: 2 accepted, 1 failed", "1 of those accepted is unequal: in the end replicas show different lists, or lack an "
-                                  "insert or a delete (--unequal lets these fail)"], lines)
+                                  "insert or a delete (with --unequal they count as failures)"], lines)
     error, *warned = got.err.decode().splitlines()
     cut = f"the trace may have been cut at a line's end: it has 4 lines, and {folder}/lost.trace.lines says that 9 were saved"
     said = [line.partition(": warning: ") for line in warned]
@@ -805,7 +805,7 @@ def unequal(tally: Tally, program: str, folder: str) -> None:
     lines = got.out.decode().splitlines()
     tally.check("unequal: it fails where that is asked for", got.status == 1 and [cells(line)[:2] for line in lines[1:2]] == [(one, "accepted, unequal")]
                 and lines[2:] == ["2 traces: 2 accepted", "1 of those accepted is unequal: in the end replicas show different lists, or lack an insert or a "
-                                  "delete (counted as failing)"], got)
+                                  "delete (counted as failures)"], got)
     faults = [(fault.tag, fault.get("type"), fault.get("message")) for case in xml.parse(junit_file).getroot().iter("testcase") for fault in case]
     tally.check("unequal: JUnit's failure", faults == [("failure", "unequal", "accepted, but unequal in the end: in the end replicas 0 and 1 show different "
                                                         "lists")], faults)
@@ -2175,7 +2175,7 @@ def weak(tally: Tally, program: str, folder: str) -> None:
         "weak", "-", "-"] and got_twice.status == 2, got_twice)
     shutil.rmtree(f"{folder}/twice")
     tally.check("weak: the counts", lines[6:] == ["5 traces: 1 accepted, 2 weak alone, 1 refused, 1 contents",
-                                                  UNEQUAL.format("--unequal lets these fail")], lines[6:])
+                                                  UNEQUAL.format("with --unequal they count as failures")], lines[6:])
     tally.check("weak: status 1, and warnings", got.status == 1 and got.err.decode().startswith(
         f"domepeeler-judge-many: {folder}/unequal.trace: warning: in the end replicas 0, 1 and 2 show different lists"), got)
     usual = judge(program, [folder])
@@ -2188,10 +2188,10 @@ def weak(tally: Tally, program: str, folder: str) -> None:
     tally.check("weak: status 0 where none fails", got.status == 0 and b"\n3 traces: 1 accepted, 2 weak alone\n" in got.out, got)
     got = judge(program, ["--weak", "--failing", *passing])
     tally.check("weak: none to list", got.status == 0 and got.out.decode().splitlines() == [
-        "3 traces: 1 accepted, 2 weak alone", UNEQUAL.format("--unequal lets these fail")], got)
+        "3 traces: 1 accepted, 2 weak alone", UNEQUAL.format("with --unequal they count as failures")], got)
     got = judge(program, ["--weak", "--unequal", "--failing", *passing])
     tally.check("weak: unequal ones fail too", got.status == 1 and cells(got.out.decode().splitlines()[1])[:2] == (
-        passing[2], "weak holds, strong doesn't, unequal") and UNEQUAL.format("counted as failing") in got.out.decode(), got)
+        passing[2], "weak holds, strong doesn't, unequal") and UNEQUAL.format("counted as failures") in got.out.decode(), got)
     rows = [json.loads(line) for line in judge(program, ["--weak", "--json", folder]).out.decode().splitlines()]
     told = [(os.path.basename(row["file"]), row["verdict"], row["status"], row["report"]["verdict"], row.get("weak_alone"), row.get("unequal"))
             for row in rows]

@@ -1574,7 +1574,7 @@ NEVER_HEARS = ("replica {} never hears of {}: no receipt brings it an insert or 
                "At the end of a session let everyone receive everything, and then read the list")
 LOST_ONE = "Unless it was still on its way, it was lost or is held back"
 LOST_SOME = "Unless they were still on their way, they were lost or are held back"
-OF_NOTHING = ("line {0}, 0.{1}: replica 0 deleted {2}, which no line inserts, so nothing was there to delete: the name is wrong, or its insert "
+OF_NOTHING = ("line {0}, 0.{1}: replica 0 deleted the element {2}, which no line inserts, so nothing was there to delete: the name is wrong, or its insert "
               "was not recorded")
 NOT_READ = "in the end replicas 0 and 1 show different lists, maybe only because replica 1 was not read at the end"
 PAST_END = "line {0}, 0.{1}: replica 0 inserted {2} at position {3}, past the end of a list of length {4}, so it counts as the end: is position {3} right?"
@@ -1603,15 +1603,15 @@ WARNED = [
                                          "read 0 b a", "read 1 b a"],
      ["in the end replicas 0, 1 and 2 do not all show the same list (0 and 1 do)", NEVER_HEARS.format(2, "replicas 0 and 1")]),
     ("no list at the end", ["new 2", "insert 0 a 0 a", "insert 1 b 0 b", "received 0 1 1", "read 0 b a", "received 1 0 1", "view 1 a"],
-     ["replica 1 received 0.1 (line 7) last, and shows no list but a view after that: let each replica read at the end", NOT_READ]),
+     ["replica 1 shows no list but a view after its last receipt, of 0.1 (line 7): let each replica read at the end", NOT_READ]),
     ("a list, and then a view", ["new 2", "insert 0 a 0 a", "received 1 0 1", "read 1 a", "view 1 a"], []),
     ("a view between two receipts", ["new 2", "insert 0 a 0 a", "read 1", "received 1 0 1", "view 1 a", "insert 0 b 0 b a", "received 1 0 2"],
-     ["replica 1 received 0.1 (line 5) and 0.2 (line 8) last, and shows no list after them: let each replica read at the end", NOT_READ]),
+     ["replica 1 shows no list after its last receipts, of 0.1 (line 5) and 0.2 (line 8): let each replica read at the end", NOT_READ]),
     ("nothing shown of what came last", ["new 2", "insert 0 a 0 a", "read 1", "received 1 0 1", "received 1 0 1"],
-     ["replica 1 received 0.1 (line 5) last, and shows no list after that: let each replica read at the end", NOT_READ]),
+     ["replica 1 shows no list after its last receipt, of 0.1 (line 5): let each replica read at the end", NOT_READ]),
     ("nothing shown of several", ["new 2", "insert 0 a 0 a", "insert 0 b 0 b a", "insert 0 c 0 c b a", "insert 0 d 0 d c b a",
                                   "insert 0 e 0 e d c b a", "view 1", *(f"received 1 0 {n}" for n in range(1, 6))],
-     ["replica 1 received 0.1 (line 9), 0.2 (line 10), 0.3 (line 11) and 2 more last, and shows no list after them: let each "
+     ["replica 1 shows no list after its last receipts, of 0.1 (line 9), 0.2 (line 10), 0.3 (line 11) and 2 more: let each "
       "replica read at the end"]),
     ("receipts alone, and no entry", ["new 3", "insert 0 a 0 a", "received 1 0 1"],
      ["replica 1 has receipts, but no operation: nothing that it showed is judged",
@@ -1797,8 +1797,8 @@ def check_explains_file(tally: Tally, recorder: Recorder, folder: Path) -> None:
     told = subprocess.run([EXPLAIN, trace], capture_output=True, text=True, env=recorder.surroundings)
     said = [line[2:] for line in got[len(lost) + 1:-1]]
     tally.check(f"{recorder.language}: explains a file of a session that ends with delivered", told.returncode == 1 and
-                said == told.stdout.splitlines() and "says that 0.1 (line 3) arrived at replica 1; no response before shows it." in told.stdout and
-                "arrived at replica 1 in line 5 (1 recv 0 1, which `delivered` wrote)" in told.stdout, (said, told))
+                said == told.stdout.splitlines() and "never reached replica 1: no response there shows it, and only what the call `delivered` wrote (line 5) says that it arrived." in told.stdout and
+                "arrived at replica 1 in line 5 (1 recv 0 1, written by the call `delivered`)" in told.stdout, (said, told))
 
 
 def check_judge(tally: Tally, recorder: Recorder, folder: Path) -> None:
@@ -2906,8 +2906,8 @@ fn main() {{
     subprocess.run(["rustc", "--edition", "2021", "-o", "placed", place / "placed.rs"], cwd=place, check=True)
     done = subprocess.run([place / "placed"], cwd=folder, env=surroundings, capture_output=True, text=True)
     tally.check("Rust: places with signs that JSON escapes", json.loads(done.stdout)["warnings"] == [
-        'replica 1 received 0.1 (line 5, a "user\'s" \\tests/placed.rs:7) last, and shows no list after that: let each replica '
-        "read at the end", NOT_READ], done)
+        'replica 1 shows no list after its last receipt, of 0.1 (line 5, a "user\'s" \\tests/placed.rs:7): let each replica read at the end',
+        NOT_READ], done)
 
 
 # Tests in Rust that fail by themselves where the variable says so.

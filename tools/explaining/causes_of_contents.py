@@ -16,13 +16,13 @@ LOCAL = ("The replica received nothing between {before} and this response, so lo
 APPLIED_TWICE = ("It looks as if {changes} {were} applied twice at replica {replica}: look at what the editor does with a change that arrives a second "
                  "time{back}, and at whether a change that was held back is applied twice: on arrival and again later.")
 OWN_BACK = " (a server may send a replica its own changes back)"
-UNDELIVERED = ("Only `delivered` ({lines}) says that {changes} arrived at replica {replica}; no response before shows {them}. {They} lost, or "
-                  "{are} held back for ever{waiting}; or `delivered` was called too early. Look at what keeps changes waiting.")
-WAITING = " ({others}, made later, perhaps wait{s} for {it})"
+UNDELIVERED = ("It looks as if {changes} never reached replica {replica}: no response there shows {them}, and only what the call `delivered` wrote ({lines}) says that {they} arrived. {They} lost, or "
+               "{are} held back for ever; or `delivered` was called too early.{waiting} Look at what keeps changes waiting.")
+WAITING = " Later changes perhaps wait for {it}: {others}."
 NO_PLACE = (" Perhaps {insert} finds no place there for {element}: its neighbour {neighbours}. An editor that throws deleted elements away too "
             "early loses such an insert or holds it back for ever.")
-NOT_APPLIED = ("It looks as if {changes} {were} not applied at replica {replica}: lost, or held back, or `received` is called before the "
-               "change is applied.{later}{elsewhere}{other}")
+NOT_APPLIED = ("It looks as if {changes} {were} not applied at replica {replica}: lost, or held back{received}.{later}{elsewhere}{other}")
+RECEIVED_EARLY = ", or `received` is called before the change is applied"
 KEPT_BACK = (" Between {change} and its first arrival elsewhere (line {first}) replica {author} received {came}: so stop before line {line} too, and look at ")
 LACKED_ELSEWHERE = "Replica {other} lacks {missing} too, in {operation}: so look first at what is sent{server}, and only then at replica {replica}. "
 LACKED_AT_SERVER = ("Replica {other} lacks {missing} too, in {operation}: so look first at what is sent, and then at replica {replica}, which changes nothing itself. If that is the server, look at "
@@ -33,7 +33,7 @@ LATER = {True: " {operation} shows it applied, after the arrival in line {line}:
                 "such as a cache, made "
                 "anew after every change, remote ones too?"}
 ELSEWHERE = {True: " Replica {other} has applied {change}, as {operation} shows: so look at replica {replica}.",
-             False: " Replica {other} has not applied {change} either, as {operation} shows: so look first at what is sent{server}."}
+             False: " Replica {other} has not applied {change} either, as {operation} shows: so look also at what is sent{server}."}
 SEARCH_MISSED = (" If the list is searched by identifiers, print those of the elements that {before} shows: where they do not rise, the search misses. Then look at how the identifier that is out of "
                  "order was made.")
 OTHER_DELETE = (" Or that delete hit another element, one that was already deleted there: look at how a replica that applies a delete finds the element (is the "
@@ -94,7 +94,7 @@ CAUSAL = ("Your editor may be right, but it needs operations in causal order: ap
 OVERTAKEN = "Look at the order in which operations arrive: {name} was overtaken, as told above. " + CAUSAL
 LOST_OR_OVERTAKEN = ("Look first at whether {name} was lost on its way to replica {replica}: no receipt there names it. If it was not lost but overtaken, "
                      "look at the order in which operations arrive. ") + CAUSAL
-LOST_NEIGHBOUR = ("If inserts find their place by a neighbour, look at inserts beside deleted elements: when {element} arrived, its neighbour was "
+LOST_NEIGHBOUR = ("If inserts find their place by a neighbour, look at inserts beside deleted elements: when {element} arrived, {neighbours} "
                   "already deleted there: {gone}. An editor that throws deleted elements away too early finds no place for it, and loses it or "
                   "holds it back for ever.")
 OWN_BACK_AGAIN = "When {came} came{line}, {back} came back, which replica {replica} had deleted itself by {delete}{lost}. Look at "
@@ -244,8 +244,9 @@ def undelivered(evidence: Evidence) -> Cause:
     written = f"line{'' if len(lines) == 1 else 's'} {listed(list(map(str, lines)), MOST_TOLD)}"
     first = [change for change in changes if not any(other is not change and change.has_seen(other) for other in changes)]
     others = [change for change in changes if change not in first]
-    waiting = WAITING.format(others=changes_told(others)["changes"], s="" if others[1:] else "s", it="these" if first[1:] else "it") if others else ""
-    told = UNDELIVERED.format(lines=written, replica=replica, waiting=waiting, them="them" if first[1:] else "it", **changes_told(first))
+    them, they = ("them", "they") if first[1:] else ("it", "it")
+    waiting = WAITING.format(others=changes_told(others)["changes"], it=them) if others else ""
+    told = UNDELIVERED.format(lines=written, replica=replica, waiting=waiting, them=them, they=they, **changes_told(first))
     gone = [delete for delete in evidence.deleted_beside(first[0], replica) if delete not in changes]
     if not gone:
         return Cause("not delivered", told)
@@ -283,7 +284,8 @@ def unlike_receipts(evidence: Evidence) -> list:
         return []
     replica = evidence.operations[0].replica
     waited = waited_in_part(evidence) if evidence.in_part is None else []
-    return tied_first([Cause(name, look.format(replica=replica, other=other_than(evidence, changes) if not waited else "",
+    is_lost = any(change in left_out and other == replica for change, other in evidence.unreceived)
+    return tied_first([Cause(name, look.format(replica=replica, received="" if is_lost else RECEIVED_EARLY, other=other_than(evidence, changes) if not waited else "",
                                          elsewhere=elsewhere(evidence, changes[0]) if not waited and evidence.in_part is None else "",
                                          later=later(evidence, changes), **changes_told(changes)))
             for name, look, changes in (("not applied", NOT_APPLIED, left_out), ("no receipt", NO_RECEIPT, added)) if changes] + [
@@ -619,4 +621,5 @@ def lost_neighbour(evidence: Evidence) -> list:
     overtaken_ones = {change.element for change, _ in evidence.overtakings}
     lost = [(arrival.insert.element, deletes) for arrival, deletes in evidence.lost_neighbours if arrival.insert.element in evidence.missing
             and not evidence.was_shown_since(arrival) and not overtaken_ones.intersection([arrival.insert.element, *(delete.element for delete in deletes)])]
-    return [Cause("lost neighbour", LOST_NEIGHBOUR.format(element=element, gone=listed([f"{delete.element}, by {at(delete)}" for delete in deletes], MOST_TOLD))) for element, deletes in lost[:1]]
+    return [Cause("lost neighbour", LOST_NEIGHBOUR.format(element=element, neighbours="its neighbours were" if deletes[1:] else "its neighbour was",
+                                                          gone=listed([f"{delete.element} (by {delete.name}, line {delete.line})" for delete in deletes], MOST_TOLD))) for element, deletes in lost[:1]]

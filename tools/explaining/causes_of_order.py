@@ -131,8 +131,8 @@ TURNED_BY_ITSELF = ("Replica {replica} shows {two} before {one} in {before}, and
                     "recorded did that: ")
 MOVED_INSERT = ("If the editor sends positions, the position of {element} was perhaps not adjusted for {changes}, which replica {replica} "
                 "knew and the author of {element} did not{back}.")
-MOVED_BACK = {True: "; or the position of the delete was not adjusted for an insert that the author of the delete had not seen",
-              False: "; or the positions of the deletes were not adjusted for inserts that their authors had not seen"}
+MOVED_BACK = {True: "; or the position of that delete was not adjusted for {inserts}, which its author had not seen",
+              False: "; or the position of one of these deletes was not adjusted for an insert that its author had not seen ({inserts})"}
 
 
 def of_position(evidence: Evidence) -> list:
@@ -163,7 +163,7 @@ def of_position(evidence: Evidence) -> list:
     told = [cause for cause in [*gone, *kept, numbers, *sorted_by, *stale, *deleted_twice(evidence)] if is_possible(cause.name, evidence.kind)]
     if not told:
         return [Cause("mapping", mapped)]
-    instead = "If that is not the cause" if evidence.kind else "If neither fits your editor" if sorted_by else "If that does not fit your editor"
+    instead = "If that is not the cause" if evidence.kind else ["If that does not fit your editor", "If neither fits your editor", "If none of these fits your editor"][min(len(told), 3) - 1]
     return [*told, Cause("mapping", otherwise(instead, mapped))]
 
 
@@ -602,5 +602,6 @@ def moved_over(evidence: Evidence) -> dict:
     unknown = [delete for delete in unknown if delete.element in before] or [delete for delete in unknown if delete.element not in behind]
     if not unknown:
         return {}
-    back = MOVED_BACK[len(unknown) == 1] if any(met_inserts(evidence.recording, delete, arrival) for delete in unknown) else ""
+    met = dict.fromkeys(insert for delete in unknown for insert in met_inserts(evidence.recording, delete, arrival))
+    back = MOVED_BACK[len(unknown) == 1].format(inserts=named(sorted(met, key=lambda insert: insert.line))) if met else ""
     return {"element": arrival.insert.element, "changes": named(unknown), "replica": arrival.receipt.replica, "back": back}

@@ -2,7 +2,7 @@
 from __future__ import annotations
 
 from .evidence import Evidence
-from .kinds import BY_ELEMENTS, IDENTIFIERS, POSITIONS
+from .kinds import BY_ELEMENTS, IDENTIFIERS, POSITIONS, is_possible
 from .recordings import FIRST_ENTRY, Operation, Receipt, Recording
 
 TITLE = "In a debugger"
@@ -39,7 +39,7 @@ def stop_of(evidence: Evidence) -> tuple:
                    if not evidence.recording.is_delivered(arrival.receipt.line)}
         *others, entry = list(arrived.values()) or [max(evidence.operations, key=lambda operation: operation.line)]
         odd = evidence.odd_one[-1] if evidence.kind == POSITIONS and evidence.odd_one else None
-        first = shown_alone(evidence) or reordering(evidence) or identified(evidence) or odd or came_between(evidence) or placed_alone(evidence)
+        first = shown_alone(evidence) or reordering(evidence) or identified(evidence) or odd or came_between(evidence) or placed_alone(evidence) or came_beside(evidence)
         arrivals = [entry, *others[::-1]] if arrived else []
         if evidence.shown_alone and evidence.shown_alone[2].line not in arrived:
             arrivals.insert(0, evidence.shown_alone[2])
@@ -99,6 +99,12 @@ def reordering(evidence: Evidence) -> Operation | Receipt | None:
     return after if after.element else received[-1] if received else None
 
 
+def came_beside(evidence: Evidence) -> Receipt | None:
+    """Of several responses that don't fit together: the receipt by which the last insert came whose neighbour was deleted there. The words begin there too."""
+    is_told = evidence.report["k"] > 2 and is_possible("several, deleted", evidence.kind)
+    return evidence.lost_neighbours[-1][0].receipt if is_told and evidence.lost_neighbours else None
+
+
 def came_between(evidence: Evidence) -> Receipt | None:
     """Of an element that a response shows between two that were put together, and the second of these, the receipt of the one that came last to its
     replica: there one of them was put into its place."""
@@ -138,9 +144,10 @@ def statement(recording: Recording, entry: Operation | Receipt, language: str) -
     first = first_together(recording, entry)
     then, asked = f"It stops when {entry.line - 1} lines have been recorded", words.format(entry.line - 1)
     if first < entry.line:
-        then += f", and when {first - 1} have, in case one call applies lines {first} to {entry.line} together"
+        together = f"{first} {'and' if first + 1 == entry.line else 'to'} {entry.line}"
+        then += f", and already when {first - 1} have, in case one call applies lines {together} together"
         asked = FOR_TWO[language].format(first - 1, entry.line - 1)
-    return [f"In {name}, put the next line {READS if is_read else BEGINS}. {then}.", f"  {asked}"]
+    return [f"In {name}, put this code {READS if is_read else BEGINS}. {then}.", f"  {asked}"]
 
 
 def first_together(recording: Recording, entry: Operation | Receipt) -> int:

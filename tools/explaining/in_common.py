@@ -19,8 +19,8 @@ AT_FRONT, AT_END, FIRST_GONE, LAST_GONE = "at the front", "at the end", "first d
 UNSEEN = {(kind, other): f"{kind}, {other}" for kind in ("ins", "del") for other in ("ins", "del")}  # by what comes, and what its author had not seen
 IN_WORDS = {
     TWICE: "a delete arrived whose element was deleted there already",
-    OWN: "a change arrived whose author had not seen one of the receiver's own changes",
-    SEVERAL_OWN: "a change arrived whose author had not seen several of the receiver's own changes",
+    OWN: "a change arrived whose author lacked at least one of the receiver's own changes",
+    SEVERAL_OWN: "a change arrived whose author lacked several of the receiver's own changes",
     ONE_PLACE: "an insert arrived at a place where an element stood that the insert's author had not seen",
     BESIDE: "an insert arrived whose neighbour was deleted there",
     NAMES_GONE: "a change arrived that deletes, or stands beside, an element which was deleted there",
@@ -206,10 +206,10 @@ def standing_out(failing: list, passing: list) -> list:
     for name in IN_WORDS:
         count, others = (sum(name in session.before for session in some) for some in (failing, passing))
         if len(passing) >= FEWEST_PASSING and count >= NEARLY_ALL * len(failing):
-            found.append(Telling(weight(count / len(failing), others, len(passing)), name, count, False, f"and in {others or 'no'} session{'s that pass' if others > 1 else ' that passes'}"))
+            found.append(Telling(weight(count / len(failing), others, len(passing)), name, count, False, f"; {others or 'none'} of the {len(passing)} that pass {'have' if others > 1 else 'has'} it{' too' if others else ''}"))
         count, others = sum(name in session.last for session in failing), sum(name in one for one in lists)
         if len(lists) >= FEWEST_LISTS and count >= MANY_LISTS * len(failing):
-            found.append(Telling(weight(count / len(failing), others, len(lists)), name, count, True, f"and just before {round(100 * others / len(lists))} % of the correct lists"))
+            found.append(Telling(weight(count / len(failing), others, len(lists)), name, count, True, f", and just before {round(100 * others / len(lists))} % of the correct lists"))
     least = max(TELLING, -log(BY_CHANCE) / len(failing))
     general = set().union(*GENERAL.values())
     told = []
@@ -236,7 +236,7 @@ def in_common(rows: list) -> list:
     passing, lines = sessions(right, False), []
     for one in standing_out(failing, passing):
         which = f"all {one.count}" if one.count == len(failing) else f"{one.count} of the {len(failing)}"
-        lines.append(f"  {IN_WORDS[one.name]}: this came {'just ' if one.is_right_before else ''}before the wrong list in {which}, {one.others}")
+        lines.append(f"  {IN_WORDS[one.name]}: this came {'just ' if one.is_right_before else ''}before the wrong list in {which}{one.others}")
     without = unneeded(failing) if lines else []
     lines += [f"  Up to where they fail, {joined(without)}: so the bug does not need these."] if without else []
     first = min(wrong, key=lambda row: (row.fails_at, row.lines, row.file))

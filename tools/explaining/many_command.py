@@ -197,7 +197,7 @@ def told_verdict(row: Row) -> str:
 def print_unequal(rows: list, asked: argparse.Namespace) -> None:
     count = sum(bool(row.unequal) for row in rows)
     if count:
-        told = "counted as failing" if asked.unequal else "--unequal lets these fail"
+        told = "counted as failures" if asked.unequal else "with --unequal they count as failures"
         of_those = "those that pass" if asked.weak else "those accepted"
         print(f"{count} of {of_those} {'is' if count == 1 else 'are'} unequal: in the end replicas show different lists, or lack an "
               f"insert or a delete ({told})")

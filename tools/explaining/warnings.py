@@ -111,7 +111,7 @@ def hidden(trace: bytes) -> tuple:
                 past_end.append(f"line {line}, {replica}.{n}: replica {replica} inserted {words[2].decode()} at position "
                                 f"{words[3].decode()}, past the end of a list of length {before}, so it counts as the end: is position {words[3].decode()} right?")
         elif kind == b"del":
-            deletes.append((words[2], f"line {line}, {replica}.{n}: replica {replica} deleted {words[2].decode()}, which no line inserts, "
+            deletes.append((words[2], f"line {line}, {replica}.{n}: replica {replica} deleted the element {words[2].decode()}, which no line inserts, "
                             "so nothing was there to delete: the name is wrong, or its insert was not recorded"))
     of_nothing = [told for name, told in deletes if name not in inserted]
     others = [*some(of_nothing, "delete", "of elements that no line inserts"), *some(past_end, "insert", "past the end of a list")]
@@ -207,8 +207,8 @@ def received_last(replicas: list) -> dict:
 
 
 def unshown(replicas: list, late: dict) -> list:
-    return [f"replica {replica} received {listed(news[:MOST_CHANGES], len(news))} last, and shows no list{' but a view' if replicas[replica].is_viewed else ''} "
-            f"after {'that' if len(news) == 1 else 'them'}: let each replica read at the end" for replica, news in late.items()]
+    return [f"replica {replica} shows no list{' but a view' if replicas[replica].is_viewed else ''} after its last receipt{'' if len(news) == 1 else 's'}, "
+            f"of {listed(news[:MOST_CHANGES], len(news))}: let each replica read at the end" for replica, news in late.items()]
 
 
 def listed(first: list, count: int) -> str:

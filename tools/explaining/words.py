@@ -50,7 +50,7 @@ def explanation(evidence: Evidence, told: Evidence, language: str = debuggers.US
     whole = whole_trace(evidence, told)
     is_alike = verdict_of(evidence.report) == verdict_of(told.report)  # then more responses would tell nothing new
     if whole:
-        more = "the same verdict, because of other responses" if is_alike else f"another verdict, {verdict_of(evidence.report)}, which is explained below"
+        more = "the same verdict, but its report names other responses" if is_alike else f"another verdict, {verdict_of(evidence.report)}, which is explained below"
         headline += f" This fault comes first, in lines 1 to {told.last_line}: start with it. The whole trace has {more}." if not passes else (
             f" Strong holds up to line {told.last_line - 1}; all below is about lines 1 to {told.last_line}{'' if is_alike else f'; the whole trace is {verdict_of(evidence.report)}'}.")
     if passes:
@@ -430,11 +430,15 @@ def arrived(recording: Recording, seen: Operation, operation: Operation) -> str:
 
 def how_arrived(recording: Recording, receipt: Receipt, seen: Operation) -> str:
     """That an operation arrived by a receipt of its own, or should have with what another one names, for a sentence on it."""
-    where = f"line {receipt.line} ({receipt.text}{', which `delivered` wrote' * recording.is_delivered(receipt.line)})"
+    where = f"line {receipt.line} ({receipt.text}{', written by the call `delivered`' * recording.is_delivered(receipt.line)})"
     if receipt.seen is seen:
         return f", which arrived at replica {receipt.replica} in {where}"
-    why = f"{receipt.seen.name} is a later operation of its author" if receipt.seen.replica == seen.replica else f"the author of {receipt.seen.name} had it"
-    return f". Replica {receipt.replica} should have had it since {where}: {why}"
+    return f". Replica {receipt.replica} should have had it since {where}: {why_after(receipt.seen, seen)}, so {receipt.seen.name} must not arrive before it"
+
+
+def why_after(later: Operation, seen: Operation) -> str:
+    """Why an operation can't arrive without one before it."""
+    return f"{later.name} is a later operation of the same author" if later.replica == seen.replica else f"the author of {later.name} had it"
 
 
 def not_arrived(recording: Recording, seen: Operation, operation: Operation) -> str:
@@ -443,8 +447,8 @@ def not_arrived(recording: Recording, seen: Operation, operation: Operation) -> 
     late = recording.arrival(seen, operation.replica)
     if late is None:
         return f", and replica {operation.replica} has no receipt of it"
-    with_it = "" if late.seen is seen else f"with {late.seen.name} "
-    return f", which replica {operation.replica} got only {with_it}in line {late.line} ({late.text}), after this response"
+    came = "" if late.seen is seen else f": {why_after(late.seen, seen)}"
+    return f", which replica {operation.replica} got only after this response, in line {late.line} ({late.text}){came}"
 
 
 def position(evidence: Evidence) -> tuple:
