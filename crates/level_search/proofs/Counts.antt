@@ -1,11 +1,11 @@
 -- Counts of looks: of a search under a lower bound, of several together, and how many at most.
 use Rattle.std.proofs.Common.{◌≡◌, ℕ, zero, suc, ◌+◌, ◌*◌, ◌≤◌, Option, Some, None, List, [], ◌∷◌}
-use Rattle.std.proofs.Common.{◌++◌, length, min, inl, inr, refl, subst, le_trans, arith}
+use Rattle.std.proofs.Common.{◌++◌, length, min, inl, inr, refl, sym, ap, ◌∙◌, subst, le_trans, arith}
 use Rattle.std.specs.Prelude.{slice_index, sum_by}
 use Rattle.std.proofs.Math.Nat.{add-mul}
 use Rattle.level_search.specs.LayerSizes.{counted, layer_size}
-use Rattle.level_search.specs.Looks.{AreCountsAt, HasLookedBy, IsCountAfter, IsCountBy, IsCountOf, IsLastPart}
-use Rattle.level_search.specs.Looks.{IsListCount}
+use Rattle.level_search.specs.Looks.{AreCountsAt, HasLookedBy, IsAnswerFrom, IsCountAfter, IsCountBy, IsCountOf}
+use Rattle.level_search.specs.Looks.{IsLastPart, IsListCount, with_answer}
 use Rattle.level_search.specs.declared.tabled.sets.Sets.{Sets}
 use Rattle.level_search.proofs.LayerSizes.{layer-up, sizes-within}
 
@@ -34,39 +34,60 @@ pub looked-lower : (n : ℕ) (rows : List (List ℕ)) (s low low' : ℕ) (sets :
 looked-lower n rows s low low' sets answer old new less is =
     (is.0, either-lower n rows s low low' sets answer is.0 less is.1, is.2)
 
-pub counts-lower : (n : ℕ) (rows : List (List ℕ)) (low low' : ℕ) (sources places : List ℕ) (count : ℕ)
-    → low' ≤ low → AreCountsAt n rows low sources places count → AreCountsAt n rows low' sources places count
-counts-lower n rows low low' sources [] count less are = are
-counts-lower n rows low low' sources (place ∷ places) count less are = (
+pub answer-lower : (rows : List (List ℕ)) (s low low' : ℕ) (answer : Option ℕ) → low' ≤ low
+    → IsAnswerFrom rows s low answer → IsAnswerFrom rows s low' answer
+answer-lower rows s low low' None less is = λ n cycle. le_trans less (is n cycle)
+answer-lower rows s low low' (Some m) less is = is
+
+pub counts-lower : (n : ℕ) (rows : List (List ℕ)) (low low' : ℕ) (sources places found : List ℕ) (count : ℕ)
+    → low' ≤ low → AreCountsAt n rows low sources places found count
+    → AreCountsAt n rows low' sources places found count
+counts-lower n rows low low' sources [] found count less are = are
+counts-lower n rows low low' sources (place ∷ places) found count less are = (
   are.0,
   are.1,
   are.2,
   are.3,
-  either-lower n rows (slice_index sources place) low low' are.2 are.3 are.0 less are.4,
-  counts-lower n rows low low' sources places are.1 less are.5,
-  are.6,
+  are.4,
+  answer-lower rows (slice_index sources place) low low' are.3 less are.5,
+  either-lower n rows (slice_index sources place) low low' are.2 are.3 are.0 less are.6,
+  counts-lower n rows low low' sources places are.4 are.1 less are.7,
+  are.8,
+  are.9,
 )
 
 -- one search more
 pub counts-one : (n : ℕ) (rows : List (List ℕ)) (low : ℕ) (sources : List ℕ) (place : ℕ) (sets : Sets)
-    (answer : Option ℕ) (one : ℕ)
+    (answer : Option ℕ) (one : ℕ) → IsAnswerFrom rows (slice_index sources place) low answer
     → IsCountBy n rows (slice_index sources place) low sets answer one
-    → AreCountsAt n rows low sources (place ∷ []) one
-counts-one n rows low sources place sets answer one is = (one, 0, sets, answer, is, refl, omega arith)
+    → AreCountsAt n rows low sources (place ∷ []) (with_answer answer []) one
+counts-one n rows low sources place sets answer one from is =
+    (one, 0, sets, answer, [], from, is, (refl, refl), omega arith, refl)
 
-pub counts-append : (n : ℕ) (rows : List (List ℕ)) (low : ℕ) (sources xs ys : List ℕ) (a b : ℕ)
-    → AreCountsAt n rows low sources xs a → AreCountsAt n rows low sources ys b
-    → AreCountsAt n rows low sources (xs ++ ys) (a + b)
-counts-append n rows low sources [] ys a b none are =
-    subst (AreCountsAt n rows low sources ys) (let zero : b ≡ a + b = omega (arith, none) in zero) are
-counts-append n rows low sources (x ∷ xs) ys a b one are = (
+answer-append : (answer : Option ℕ) (xs ys : List ℕ)
+    → with_answer answer xs ++ ys ≡ with_answer answer (xs ++ ys)
+answer-append None xs ys = refl
+answer-append (Some m) xs ys = refl
+
+pub counts-append : (n : ℕ) (rows : List (List ℕ)) (low : ℕ) (sources xs ys found later : List ℕ) (a b : ℕ)
+    → AreCountsAt n rows low sources xs found a → AreCountsAt n rows low sources ys later b
+    → AreCountsAt n rows low sources (xs ++ ys) (found ++ later) (a + b)
+counts-append n rows low sources [] ys found later a b none are =
+    let zero = none.1 in
+    let sum : b ≡ a + b = omega (arith, zero) in
+    subst (λ (l : List ℕ). AreCountsAt n rows low sources ys (l ++ later) (a + b)) (sym none.0)
+    (subst (AreCountsAt n rows low sources ys later) sum are)
+counts-append n rows low sources (x ∷ xs) ys found later a b one are = (
   one.0,
   one.1 + b,
   one.2,
   one.3,
-  one.4,
-  counts-append n rows low sources xs ys one.1 b one.5 are,
-  (let sum = one.6 in omega (arith, sum)),
+  one.4 ++ later,
+  one.5,
+  one.6,
+  counts-append n rows low sources xs ys one.4 later one.1 b one.7 are,
+  (let sum = one.8 in omega (arith, sum)),
+  ap (λ (l : List ℕ). l ++ later) one.9 ∙ answer-append one.3 one.4 later,
 )
 
 part-within : (n : ℕ) (rows : List (List ℕ)) (s low times : ℕ) (sets : Sets) (level : ℕ) (answer : Option ℕ)
@@ -102,15 +123,15 @@ either-most n rows s low sets answer count most two all (inl is) =
 either-most n rows s low sets answer count most two all (inr is) =
     le_trans (list-most n rows low answer count is) all
 
-pub counts-most : (n : ℕ) (rows : List (List ℕ)) (low : ℕ) (sources places : List ℕ) (count most : ℕ)
+pub counts-most : (n : ℕ) (rows : List (List ℕ)) (low : ℕ) (sources places found : List ℕ) (count most : ℕ)
     → 2 * n ≤ most → sum_by (λ r. length r) rows + n ≤ most
-    → AreCountsAt n rows low sources places count → count ≤ length places * most
-counts-most n rows low sources [] count most two all are = omega (arith, are)
-counts-most n rows low sources (place ∷ places) count most two all are =
+    → AreCountsAt n rows low sources places found count → count ≤ length places * most
+counts-most n rows low sources [] found count most two all are = let zero = are.1 in omega (arith, zero)
+counts-most n rows low sources (place ∷ places) found count most two all are =
     let one =
-    either-most n rows (slice_index sources place) low are.2 are.3 are.0 most two all are.4 in
-    let others = counts-most n rows low sources places are.1 most two all are.5 in
-    let sum = are.6 in
+    either-most n rows (slice_index sources place) low are.2 are.3 are.0 most two all are.6 in
+    let others = counts-most n rows low sources places are.4 are.1 most two all are.7 in
+    let sum = are.8 in
     omega (arith, one, others, sum, add-mul (length places) 1 most)
 
 -- a count from 0 is the number of looks, up to the last count

@@ -80,7 +80,7 @@ pub within-searches : (v : Responses) (n : ℕ) (rows : List (List ℕ)) (least 
     → AreLooksOf n rows least looked → IsWithinSearches v looked
 within-searches v n rows least looked known placed total is =
     let all =
-    counts-most n rows least is.sources is.places is.count (place_count v + length v.elements)
+    counts-most n rows least is.sources is.places is.found is.count (place_count v + length v.elements)
     (omega (arith, known, placed)) (omega (arith, known, total)) is.counts in
     let searches : length is.places ≡ length is.sources =
     length_permutation (range_with_len 0 (length is.sources)) is.places is.once

@@ -23,7 +23,7 @@ use Rattle.level_search.proofs.LayerSizes.{looked-more}
 use Rattle.level_search.specs.Sources.{MeetsCycles}
 use Rattle.level_search.specs.Team.{AreNumbered, IsSearchedAt, IsLength, Honest, IsReady, SameSeat, HasWorked}
 use Rattle.level_search.specs.Team.{HaveWorked, AreLooksOfClaims, ceiling, AtPlace, IsTeam, IsLeastLength}
-use Rattle.level_search.specs.Looks.{AreCountsAt, HasLookedBy}
+use Rattle.level_search.specs.Looks.{AreCountsAt, HasLookedBy, IsAnswerFrom, with_answer}
 use Rattle.level_search.specs.declared.tabled.sets.Sets.{Sets}
 use Rattle.level_search.specs.declared.workers.worker.Worker.{Worker}
 use Rattle.list_search.proofs.Joining.{cycle-known, first-walk, names_of_walk, walk_of_names}
@@ -89,32 +89,43 @@ fewer_left s t source bound claimed within above =
     subst (λ (z : BoundView × List ℕ). z.0.sources - ceiling z.1 < s.bound.sources - ceiling s.claimed)
     (λ i. (sym bound i, sym claimed i)) (fewer s.bound.sources source s.claimed within above)
 
+-- claims and offers that are these
+of_lists : (n : ℕ) (rows : List (List ℕ)) (low : ℕ) (sources xs xs' ys ys' : List ℕ) (count : ℕ) → xs' ≡ xs
+    → ys' ≡ ys → AreCountsAt n rows low sources xs ys count → AreCountsAt n rows low sources xs' ys' count
+of_lists n rows low sources xs xs' ys ys' count same same' are =
+    subst (λ (l : List ℕ). AreCountsAt n rows low sources l ys' count) (sym same)
+    (subst (λ (l : List ℕ). AreCountsAt n rows low sources xs l count) (sym same') are)
+
 -- a claim, and the looks of a search from what was claimed
 pub looks_claimed : (n : ℕ) (rows : List (List ℕ)) (sources : List ℕ) (s t : SeatView) (place was now : ℕ)
-    (sets : Sets) (answer : Option ℕ) → t.claimed ≡ s.claimed ++ place ∷ [] → t.low ≤ s.low
-    → AreLooksOfClaims n rows sources s was
+    (sets : Sets) (answer : Option ℕ) → t.claimed ≡ s.claimed ++ place ∷ []
+    → t.offered ≡ s.offered ++ with_answer answer [] → t.low ≤ s.low
+    → AreLooksOfClaims n rows sources s was → IsAnswerFrom rows (slice_index sources place) t.low answer
     → HasLookedBy n rows (slice_index sources place) t.low sets answer was now
     → AreLooksOfClaims n rows sources t now
-looks_claimed n rows sources s t place was now sets answer claimed less are more = (
+looks_claimed n rows sources s t place was now sets answer claimed offered less are from more = (
   are.0 + more.0,
-  subst (λ xs. AreCountsAt n rows t.low sources xs (are.0 + more.0)) (sym claimed)
-      (counts-append n rows t.low sources s.claimed (place ∷ []) are.0 more.0
-      (counts-lower n rows s.low t.low sources s.claimed are.0 less are.1)
-      (counts-one n rows t.low sources place sets answer more.0 more.1)),
+  of_lists n rows t.low sources (s.claimed ++ place ∷ []) t.claimed (s.offered ++ with_answer answer [])
+      t.offered (are.0 + more.0) claimed offered
+      (counts-append n rows t.low sources s.claimed (place ∷ []) s.offered (with_answer answer []) are.0 more.0
+      (counts-lower n rows s.low t.low sources s.claimed s.offered are.0 less are.1)
+      (counts-one n rows t.low sources place sets answer more.0 from more.1)),
   looked-more are.0 more.0 0 was now are.2 more.2,
 )
 
 -- the looks of two seats together
 pub looks_taken_in : (n : ℕ) (rows : List (List ℕ)) (sources : List ℕ) (s o t : SeatView)
-    (mine others all : ℕ) → t.claimed ≡ s.claimed ++ o.claimed → t.low ≤ s.low → t.low ≤ o.low
+    (mine others all : ℕ) → t.claimed ≡ s.claimed ++ o.claimed → t.offered ≡ s.offered ++ o.offered
+    → t.low ≤ s.low → t.low ≤ o.low
     → AreLooksOfClaims n rows sources s mine → AreLooksOfClaims n rows sources o others
     → all ≡ min (mine + others) 18446744073709551615 → AreLooksOfClaims n rows sources t all
-looks_taken_in n rows sources s o t mine others all claimed less less' are are' sum = (
+looks_taken_in n rows sources s o t mine others all claimed offered less less' are are' sum = (
   are.0 + are'.0,
-  subst (λ xs. AreCountsAt n rows t.low sources xs (are.0 + are'.0)) (sym claimed)
-      (counts-append n rows t.low sources s.claimed o.claimed are.0 are'.0
-      (counts-lower n rows s.low t.low sources s.claimed are.0 less are.1)
-      (counts-lower n rows o.low t.low sources o.claimed are'.0 less' are'.1)),
+  of_lists n rows t.low sources (s.claimed ++ o.claimed) t.claimed (s.offered ++ o.offered) t.offered
+      (are.0 + are'.0) claimed offered
+      (counts-append n rows t.low sources s.claimed o.claimed s.offered o.offered are.0 are'.0
+      (counts-lower n rows s.low t.low sources s.claimed s.offered are.0 less are.1)
+      (counts-lower n rows o.low t.low sources o.claimed o.offered are'.0 less' are'.1)),
   counted-together are.0 are'.0 mine others all are.2 are'.2 sum,
 )
 

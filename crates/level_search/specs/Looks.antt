@@ -4,6 +4,7 @@ use Rattle.std.specs.Prelude.{length, min, slice_index, sum_by}
 use Rattle.specification.specs.Responses.{Responses, place_count}
 use Rattle.level_search.specs.Balls.{IsBall, IsInLayer}
 use Rattle.list_search.specs.Graph.{Before}
+use Rattle.list_search.specs.Walks.{IsShortest, NoneShorter}
 use Rattle.level_search.specs.LayerSizes.{counted, layer_size, set_size}
 use Rattle.level_search.specs.declared.tabled.sets.Sets.{Sets}
 
@@ -74,13 +75,26 @@ abbrev pub HasLookedInLists : ℕ → List (List ℕ) → ℕ → Option ℕ →
 HasLookedInLists n rows low answer old new =
     (count : ℕ) × IsListCount n rows low answer count × (new ≡ counted count old)
 
--- the looks of a search from the element at each of these places of a list, together
-abbrev pub AreCountsAt : ℕ → List (List ℕ) → ℕ → List ℕ → List ℕ → ℕ → Type 0
-AreCountsAt n rows low sources [] count = count ≡ 0
-AreCountsAt n rows low sources (place ∷ places) count =
-    (one : ℕ) × (others : ℕ) × (sets : Sets) × (answer : Option ℕ)
+-- what a search from s under bounds of no less than `low` may answer
+abbrev pub IsAnswerFrom : List (List ℕ) → ℕ → ℕ → Option ℕ → Type 0
+IsAnswerFrom rows s low None = NoneShorter rows s low
+IsAnswerFrom rows s low (Some m) = IsShortest rows s m
+
+-- the lengths found, with that of one search before them
+abbrev pub with_answer : Option ℕ → List ℕ → List ℕ
+with_answer None found = found
+with_answer (Some m) found = m ∷ found
+
+-- the looks of a search from the element at each of these places of a list, together; and the lengths that these
+-- searches found, in their order
+abbrev pub AreCountsAt : ℕ → List (List ℕ) → ℕ → List ℕ → List ℕ → List ℕ → ℕ → Type 0
+AreCountsAt n rows low sources [] found count = (found ≡ []) × (count ≡ 0)
+AreCountsAt n rows low sources (place ∷ places) found count =
+    (one : ℕ) × (others : ℕ) × (sets : Sets) × (answer : Option ℕ) × (later : List ℕ)
+    × IsAnswerFrom rows (slice_index sources place) low answer
     × IsCountBy n rows (slice_index sources place) low sets answer one
-    × AreCountsAt n rows low sources places others × (count ≡ one + others)
+    × AreCountsAt n rows low sources places later others
+    × (count ≡ one + others) × (found ≡ with_answer answer later)
 
 -- a count has risen by so many looks at least, up to the last count
 abbrev pub HasRisenBy : ℕ → ℕ → ℕ → Type 0

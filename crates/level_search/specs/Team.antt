@@ -2,7 +2,7 @@
 use Rattle.std.specs.Prelude.{◌≡◌, ℕ, ◌+◌, ◌<◌, ◌≤◌, ◌⊎◌, max, true, false, List, [], ◌∷◌, length}
 use Rattle.std.specs.Prelude.{slice_index, slice_index_or, IsPermutation, All}
 use Rattle.std.specs.List.{range_with_len}
-use Rattle.shared_bound.specs.Seats.{BoundView, SeatView}
+use Rattle.shared_bound.specs.Seats.{BoundView, SeatView, least_offer}
 use Rattle.shared_bound.specs.declared.TheConstants.{NO_OFFER}
 use Rattle.specification.specs.Responses.{Responses}
 use Rattle.specification.specs.Search.{IsShortestLength, HasNoCycle}
@@ -28,10 +28,10 @@ pub record Honest (rows : List (List ℕ)) (sources : List ℕ) (s : SeatView) :
   pub offers : All (IsLength rows) s.offered
   pub claims : All (IsSearchedAt rows sources s.low) s.claimed
 
--- a count of just the looks of a search from each source that the seat was given
+-- a count of just the looks of a search from each source that the seat was given, which found just what was offered
 abbrev pub AreLooksOfClaims : ℕ → List (List ℕ) → List ℕ → SeatView → ℕ → Type 0
 AreLooksOfClaims n rows sources s looked =
-    (count : ℕ) × AreCountsAt n rows s.low sources s.claimed count × (looked ≡ counted count 0)
+    (count : ℕ) × AreCountsAt n rows s.low sources s.claimed s.offered count × (looked ≡ counted count 0)
 
 -- a worker may search this graph from these sources
 pub record IsReady (v : Responses) (sources : List ℕ) (w : Worker) : Type 0 where
@@ -87,7 +87,8 @@ abbrev pub IsDoneTeam : BoundView → Responses → List ℕ → ℕ → List Wo
 IsDoneTeam b v sources m team = IsTeam b v sources m team × All (λ w. w.seat.done ≡ true) team
 
 -- Just the looks of one search from each of some elements: of n elements at most, through which all cycles
--- lead. No search was under a bound of less than `least`.
+-- lead. No search was under a bound of less than `least`, and that is the least length which one found, or
+-- `NO_OFFER` where none found any.
 pub record AreLooksOf (n : ℕ) (rows : List (List ℕ)) (least looked : ℕ) : Type 0 where
   pub sources : List ℕ
   pub known : All (λ s. s < n) sources
@@ -96,7 +97,9 @@ pub record AreLooksOf (n : ℕ) (rows : List (List ℕ)) (least looked : ℕ) : 
   pub places : List ℕ
   pub once : IsPermutation (range_with_len 0 (length sources)) places
   pub count : ℕ
-  pub counts : AreCountsAt n rows least sources places count
+  pub found : List ℕ
+  pub least_is : least ≡ least_offer found
+  pub counts : AreCountsAt n rows least sources places found count
   pub looked_is : looked ≡ counted count 0
 
 -- m is the length of a shortest cycle, or `NO_OFFER` where there is none

@@ -5,7 +5,7 @@ ghost use Rattle.std.specs.Prelude.{IsPermutation, All, vec_len};
 ghost use Rattle.std.specs.List.{range_with_len};
 ghost use Rattle.order_graph.specs.Lists.{lists_of};
 ghost use Rattle.specification.specs.Responses.{AreProper};
-ghost use Rattle.shared_bound.specs.Seats.{fresh_seat};
+ghost use Rattle.shared_bound.specs.Seats.{fresh_seat, least_offer};
 ghost use Rattle.level_search.specs.Ways.{IsWay};
 ghost use Rattle.level_search.specs.Sources.{MeetsCycles};
 ghost use Rattle.level_search.specs.Team.{AreLooksOf, AreLooksOfClaims, CanWork, HasWorked, HaveWorked};
@@ -118,6 +118,7 @@ fn closed(bound: Bound, graph: &OrderGraph, sources: &[u32], first: Seat) -> u32
     requires honest { Honest (lists_of graph.now) sources.now first }
     ensures least { IsLeastLength graph.now result }
     ensures low { result ≤ first.low }
+    ensures offer { result ≡ least_offer first.offered }
     ensures claimed { IsPermutation (range_with_len 0 (length sources.now)) first.claimed }
 {
     bound.close(first)

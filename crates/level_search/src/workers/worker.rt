@@ -1,8 +1,8 @@
 //! One worker: it claims sources, searches from them, and offers what it finds.
 
-ghost use Rattle.std.specs.Prelude.{◌≡◌, ℕ, Option, List, ◌<◌, ◌≤◌, true, [], length, IfOk, All};
+ghost use Rattle.std.specs.Prelude.{◌≡◌, ℕ, Option, List, ◌<◌, ◌≤◌, true, [], ◌++◌, length, IfOk, All};
 ghost use Rattle.order_graph.specs.Lists.{lists_of};
-ghost use Rattle.level_search.specs.Looks.{HasLookedBy};
+ghost use Rattle.level_search.specs.Looks.{HasLookedBy, IsAnswerFrom, with_answer};
 ghost use Rattle.level_search.specs.Team.{IsLength, IsReady, SameSeat};
 ghost use Rattle.level_search.specs.Ways.{FitsRoom, IsWay};
 ghost use Rattle.list_search.specs.Walks.{NoneShorter};
@@ -81,8 +81,11 @@ fn search_from<G: Gate>(graph: &OrderGraph, way: &Way, source: u32, gate: &G, wo
     } }
     ensures offers { All (IsLength (lists_of graph.now)) worker.old.seat.offered
         → All (IsLength (lists_of graph.now)) worker.new.seat.offered }
-    ensures looks { (sets : Sets) × (answer : Option ℕ) × HasLookedBy (length graph.now.elements)
-        (lists_of graph.now) source worker.new.seat.low sets answer worker.old.looked worker.new.looked }
+    ensures looks { (sets : Sets) × (answer : Option ℕ)
+        × (worker.new.seat.offered ≡ worker.old.seat.offered ++ with_answer answer [])
+        × IsAnswerFrom (lists_of graph.now) source worker.new.seat.low answer
+        × HasLookedBy (length graph.now.elements) (lists_of graph.now) source worker.new.seat.low sets answer
+        worker.old.looked worker.new.looked }
 {
     gate.before(worker.number, source);
     if let Some(length) = search_through(

@@ -11,5 +11,6 @@ returns c =
       least = settled _ c.requires.proper _ _ _ c.args.first _ c.requires.count c.requires.met e.low
           c.requires.honest (rw all at e.claimed.2) (rw c.requires.count at e.run.1);
       low = search rules;
+      offer = e.least;
       claimed = rw (all ∙ c.requires.count) at e.claimed.2;
     }

@@ -30,7 +30,8 @@ loop-other-preserved c =
           (ap (λ (s : SeatView). s.claimed) e) (ap (λ (s : SeatView). s.offered) e) (omega arith)
           (omega arith),
       looks_taken_in _ _ _ c.loop-other.first c.into_seat-seat.result.0 c.take_in.new.first _
-          c.into_seat-seat.result.1 _ (ap (λ (s : SeatView). s.claimed) e) (omega arith) (omega arith) inv.5
+          c.into_seat-seat.result.1 _ (ap (λ (s : SeatView). s.claimed) e) (ap (λ (s : SeatView). s.offered) e)
+          (omega arith) (omega arith) inv.5
           (rw (other.seat, other.looked) front.1.3) c.saturating_add-looked.ensures,
       front.0,
     )

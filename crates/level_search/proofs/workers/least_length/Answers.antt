@@ -31,6 +31,8 @@ returns-clause-looked g c =
       places = c.gathered-first.result.0.claimed;
       once = c.closed.ensures.claimed;
       count = looks.0;
-      counts = counts-lower _ _ _ _ _ _ looks.0 c.closed.ensures.low looks.1;
+      found = c.gathered-first.result.0.offered;
+      least_is = c.closed.ensures.offer;
+      counts = counts-lower _ _ _ _ _ _ _ looks.0 c.closed.ensures.low looks.1;
       looked_is = looks.2;
     }

@@ -1,4 +1,5 @@
-use Rattle.std.proofs.Common.{◌≡◌, ℕ, List, [], ◌∷◌, ◌++◌, ap, sym, subst, ◌∙◌, arith, All}
+use Rattle.std.proofs.Common.{◌≡◌, ℕ, Some, None, List, [], ◌∷◌, ◌++◌, ap, sym, subst, ◌∙◌, arith, All}
+use Rattle.std.proofs.lemmas.List.{append-nil}
 use Rattle.std.proofs.lemmas.List.Elements.{All-push}
 use Rattle.order_graph.specs.Lists.{lists_of}
 use Rattle.shared_bound.specs.Seats.{SeatView}
@@ -34,14 +35,27 @@ returns-clause-offers g c =
 -- the least length that the seat knows of is no greater than the bound that was read last
 pub returns-clause-looks : goal.returns-clause-looks
 returns-clause-looks g c =
-    let looks = c.search_through.ensures.looks in
+    let read : c.search_through.new.bound.offered ≡ c.args.worker.now.seat.offered =
+    ap (λ (s : SeatView). s.offered) c.search_through.ensures.reads in
     elim c.match-search_through.branch [
       | in-Some w ↦
           let less = w.offer.ensures.low in
+          let told : w.offer.new.self.offered ≡ c.search_through.new.bound.offered ++ w.in-Some.length ∷ [] =
+          ap (λ (s : SeatView). s.offered) w.offer.ensures.seat in
           rw w.worker-is (
             c.search_through.new.room.sets,
-            c.search_through.result,
-            looked-lower _ _ _ c.search_through.new.bound.low _ _ _ _ _ (omega (arith, less)) looks,
+            Some w.in-Some.length,
+            told ∙ ap (λ (l : List ℕ). l ++ w.in-Some.length ∷ []) read,
+            w.in-Some.ensures.answer.0,
+            looked-lower _ _ _ c.search_through.new.bound.low _ _ _ _ _ (omega (arith, less))
+                w.in-Some.ensures.looks,
           )
-      | in_default w ↦ rw w.worker-is (c.search_through.new.room.sets, c.search_through.result, looks)
+      | in_default w ↦
+          rw w.worker-is (
+            c.search_through.new.room.sets,
+            None,
+            read ∙ sym (append-nil c.args.worker.now.seat.offered),
+            w.in_default.ensures.answer,
+            w.in_default.ensures.looks,
+          )
     ]

@@ -22,7 +22,7 @@ loop-place-preserved g c =
         fits = found.fits;
         looked =
             looks_claimed _ _ _ c.loop-place.worker.seat c.search_from.new.worker.seat c.in-Some.place _ _ _ _
-            then.0 low inv.0.looked found.looks.2;
+            then.0 (rw then.1 at found.looks.2) low inv.0.looked found.looks.3 found.looks.4;
       },
       (then.3.0 ∙ inv.1.0, then.3.1 ∙ inv.1.1, then.3.2 ∙ inv.1.2),
       found.number ∙ inv.2,
