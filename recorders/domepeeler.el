@@ -987,7 +987,7 @@ A letter stands first, as `2-0' would look like an operation's name."
      :entries entries
      :of-nothing (cl-loop for (name . named) in (nreverse deletes)
                           unless (gethash name inserted)
-                          collect (format "%s deleted the element %s, which no line inserts, so nothing was there to delete: %s"
+                          collect (format "%s deleted `%s`, which no line inserts, so nothing was there to delete: %s"
                                           named name "the name is wrong, or its insert was not recorded"))
      :past-end (nreverse past-end))))
 
@@ -1027,9 +1027,9 @@ that are not in LATE show one list, that may be why."
            (lost (if (and (= count 1) (null (cdr alike))) "Unless it was still on its way, it was lost or is held back" "Unless they were still on their way, they were lost or are held back"))
            (groups (mapcar (lambda (pair) (reverse (cdr pair))) (reverse lists)))
            (same (cl-loop for group in groups
-                          when (cdr group) collect (format "%s do" (domepeeler--joined group))))
-           (told (format "in the end replicas %s %s" (domepeeler--joined (sort (apply #'append groups) #'<))
-                         (if same (format "do not all show the same list (%s)" (string-join same "; ")) "show different lists"))))
+                          when (cdr group) collect (format "those of %s are" (domepeeler--joined group))))
+           (told (format "the last lists that replicas %s show %s" (domepeeler--joined (sort (apply #'append groups) #'<))
+                         (if same (format "are not all the same (%s)" (string-join same "; ")) "differ"))))
       (cond
        ((and (< (length groups) 2) (= count 0)) nil)
        ((< (length groups) 2) (list (format "in this recording %s. %s" never lost)))

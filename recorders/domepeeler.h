@@ -1484,15 +1484,15 @@ static inline void domepeeler_say_different(const struct domepeeler_warned *w) {
     int like[DOMEPEELER_REPLICAS];
     w->said->is_short |= never.is_short;
     if (domepeeler_alike(w, like) > 1) {
-        domepeeler_say(w->said, "in the end replicas ");
+        domepeeler_say(w->said, "the last lists that replicas ");
         domepeeler_say_alike(w, w->said, like, -1);
         for (int i = 0; i < w->d->replicas; i++) groups += like[i] == i && domepeeler_say_alike(w, &none, like, i) > 1;
-        domepeeler_say(w->said, groups ? " do not all show the same list" : " show different lists");
+        domepeeler_say(w->said, groups ? " show are not all the same" : " show differ");
         for (int i = 0; i < w->d->replicas; i++) {
             if (like[i] != i || domepeeler_say_alike(w, &none, like, i) < 2) continue;
-            domepeeler_say(w->said, "%s", told ? "; " : " (");
+            domepeeler_say(w->said, "%s", told ? "; those of " : " (those of ");
             domepeeler_say_alike(w, w->said, like, i);
-            domepeeler_say(w->said, " do%s", ++told == groups ? ")" : "");
+            domepeeler_say(w->said, " are%s", ++told == groups ? ")" : "");
         }
         if (count) domepeeler_say(w->said, ": %s in this recording. %s", never.text ? never.text : "", lost);
         if (!count) domepeeler_say_only_late(w, like);
@@ -1567,7 +1567,7 @@ static inline void domepeeler_say_of_nothing(const struct domepeeler_warned *w) 
         const struct domepeeler_event *one = &w->deletes[i];
         if (bsearch(&one->name, w->inserted, w->inserts, sizeof *w->inserted, domepeeler_compare)) continue;
         if (count++ < DOMEPEELER_TOLD)
-            domepeeler_say(w->said, "line %zu, %d.%u: replica %d deleted the element %.*s, which no line inserts, so nothing was there to "
+            domepeeler_say(w->said, "line %zu, %d.%u: replica %d deleted `%.*s`, which no line inserts, so nothing was there to "
                                     "delete: the name is wrong, or its insert was not recorded\n", one->line, one->author, one->n,
                            one->author, (int)one->name.length, one->name.at);
     }

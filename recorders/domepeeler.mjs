@@ -951,7 +951,7 @@ function hidden(lines) {
           `a list of length ${names.length - 1}, so it counts as the end: is position ${words[3]} right?`)
       }
     } else if (kind === "del") {
-      deletes.push([words[2], `line ${line}, ${replica}.${n}: replica ${replica} deleted the element ${words[2]}, which no line inserts, so nothing ` +
+      deletes.push([words[2], `line ${line}, ${replica}.${n}: replica ${replica} deleted \`${words[2]}\`, which no line inserts, so nothing ` +
         "was there to delete: the name is wrong, or its insert was not recorded"])
     }
   })
@@ -992,8 +992,8 @@ function different(ends, late) {
   const lost = isOne ? "Unless it was still on its way, it was lost or is held back" : "Unless they were still on their way, they were lost or are held back"
   if (lists.size < 2) return never.length ? [`in this recording ${never.join("; ")}. ${lost}`] : []
   const replicas = [...lists.values()].flat().sort((a, b) => a - b)
-  const same = [...lists.values()].filter((one) => one.length > 1).map((one) => `${joined(one)} do`)
-  const said = `in the end replicas ${joined(replicas)} ${same.length ? `do not all show the same list (${same.join("; ")})` : "show different lists"}`
+  const same = [...lists.values()].filter((one) => one.length > 1).map((one) => `those of ${joined(one)} are`)
+  const said = `the last lists that replicas ${joined(replicas)} show ${same.length ? `are not all the same (${same.join("; ")})` : "differ"}`
   return [never.length ? `${said}: ${never.join("; ")} in this recording. ${lost}` : said + onlyLate([...lists.values()], late)]
 }
 

@@ -967,7 +967,7 @@ def _hidden(lines: List[str]) -> List[str]:
                 past_end.append(f"line {line}, {replica}.{n}: replica {replica} inserted {words[2]} at position {words[3]}, past the end of "
                                 f"a list of length {before}, so it counts as the end: is position {words[3]} right?")
         elif kind == "del":
-            deletes.append((words[2], f"line {line}, {replica}.{n}: replica {replica} deleted the element {words[2]}, which no line inserts, so nothing "
+            deletes.append((words[2], f"line {line}, {replica}.{n}: replica {replica} deleted `{words[2]}`, which no line inserts, so nothing "
                                       "was there to delete: the name is wrong, or its insert was not recorded"))
     of_nothing = [told for name, told in deletes if name not in inserted]
     silent = [f"replica {replica} has {'receipts, but no operation' if one.receipts else 'no entry'}: nothing that it showed is judged"
@@ -1004,8 +1004,8 @@ def _different(ends: List[_End], late: Dict[int, List[str]]) -> List[str]:
     if len(lists) < 2:
         return [f"in this recording {lacked}. {lost}"] if never else []
     among = _joined(map(str, sorted(sum(lists.values(), []))))
-    same = [f"{_joined(map(str, one))} do" for one in lists.values() if len(one) > 1]
-    told = f"in the end replicas {among} " + (f"do not all show the same list ({'; '.join(same)})" if same else "show different lists")
+    same = [f"those of {_joined(map(str, one))} are" for one in lists.values() if len(one) > 1]
+    told = f"the last lists that replicas {among} show " + (f"are not all the same ({'; '.join(same)})" if same else "differ")
     return [f"{told}: {lacked} in this recording. {lost}" if never else told + _only_late(list(lists.values()), late)]
 
 

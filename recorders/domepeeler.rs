@@ -1358,7 +1358,7 @@ impl<'a> Warned<'a> {
         }
         for (name, named) in deletes.into_iter().filter(|(name, _)| !inserted.contains(name)) {
             warned.of_nothing.push(format!(
-                "{named} deleted the element {name}, which no line inserts, so nothing was there to delete: \
+                "{named} deleted `{name}`, which no line inserts, so nothing was there to delete: \
                  the name is wrong, or its insert was not recorded"
             ));
         }
@@ -1425,12 +1425,12 @@ impl<'a> Warned<'a> {
         let mut replicas: Vec<usize> = lists.iter().flat_map(|(_, of)| of).copied().collect();
         replicas.sort_unstable();
         let same: Vec<String> =
-            lists.iter().filter(|(_, of)| of.len() > 1).map(|(_, of)| format!("{} do", joined(of))).collect();
+            lists.iter().filter(|(_, of)| of.len() > 1).map(|(_, of)| format!("those of {} are", joined(of))).collect();
         let differ = match same.join("; ") {
-            same if same.is_empty() => "show different lists".to_string(),
-            same => format!("do not all show the same list ({same})"),
+            same if same.is_empty() => "differ".to_string(),
+            same => format!("are not all the same ({same})"),
         };
-        let told = format!("in the end replicas {} {differ}", joined(&replicas));
+        let told = format!("the last lists that replicas {} show {differ}", joined(&replicas));
         let is_settled = |of: &&Vec<usize>| of.iter().any(|replica| !late.contains_key(replica));
         let is_only_late = lists.iter().map(|(_, of)| of).filter(is_settled).count() < 2;
         replicas.retain(|replica| late.contains_key(replica));

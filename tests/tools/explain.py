@@ -121,7 +121,7 @@ WORDS = [
      "If the list is sorted by position identifiers, print those of r, s and z at line 22. If they do not rise in this order, look at how the identifier of s was made; if they do, at how "
      "identifiers are compared (numbers must not be compared as text).|If the editor sends positions, the position of s was perhaps not adjusted for the delete of a by 1.2 (line 9), the delete of b "
      "by 1.4 (line 13), the delete of c by 1.6 (line 17) and the delete of r by 1.8 (line 21), which replica 1 knew and the author of s did not; or the position of one of these deletes was not "
-     "adjusted for an insert that its author had not seen (the insert of p by 0.5 (line 10), the insert of q by 0.6 (line 14) and the insert of r by 0.7 (line 18))." + stop(23, "replica 1 applies 0.8", 7)),
+     "adjusted for an insert that the author of the delete had not seen (the insert of p by 0.5 (line 10), the insert of q by 0.6 (line 14) and the insert of r by 0.7 (line 18))." + stop(23, "replica 1 applies 0.8", 7)),
     ("a local delete whose change names another element than the one that is gone", 2, "0 ins a 0 : a|1 recv 0 1|1 ins b 1 : a b|1 del a : b|1 del c :",
      "Where to look|1.3 (line 7) deletes c; but c does not stand in 1.2 (line 6) and no line inserts it, while b is gone. Look at which ids a local delete puts into "
      "the change that it sends: where it deletes several, each element has an id of its own, and these need not be consecutive." + stop(7, "replica 1 deletes c", together=6)),
@@ -232,7 +232,7 @@ WORDS = [
      "Look at positions beside deleted elements: any two of 2.1, 0.3 and 1.1 fit together, but not all three; perhaps an insert lost its place "
      "because its neighbour was deleted meanwhile. Look first at where replica 0 placed b in line 10: it belongs beside x, which had been deleted there.|"
      "For the verdict on the whole trace: look at where a replica places an incoming insert beside a deleted element: [a] was put before [x] (1.1, line 6), and [b] behind it (2.1, line 7), so [x] settles their order, also where it is deleted; yet 0.3 (line 11) shows them the other way round. The rule for concurrent inserts must not decide this.|For the verdict on the whole trace: if the list is sorted by position identifiers, look at those of a and b: are the two equal, does one differ between replicas, are numbers compared as text, or is one of them not between the identifiers of its neighbours?|For the verdict on the whole trace: if the editor sends positions, the position of b was perhaps not adjusted for the delete of x by 0.2 (line 8), which replica 1 "
-     "knew and the author of b did not; or the position of that delete was not adjusted for the insert of a by 1.1 (line 6), which its author had not seen.|"
+     "knew and the author of b did not; or the position of that delete was not adjusted for the insert of a by 1.1 (line 6), which the author of the delete had not seen.|"
      "" + stop(10, "replica 0 applies 2.1", 9, 5, 4, together=9) + "||What the whole trace shows: a circle, which no order allows|"
      "[a] before [b]: line 14, 1.2: replica 1 read the list, answered [a] [b]|"
      "[b] before [a]: line 11, 0.3: replica 0 read the list, answered [b] [a]"),
@@ -285,7 +285,7 @@ WORDS = [
     ("an element of one's own lost, whose delete has not arrived", 2, "0 ins a 0 : a|1 recv 0 1|1 del a :|0 read :|0 recv 1 1",
      "contents 0.2: this response lacks one element that replica 0 should have had by then.|"
      "answered: (nothing)|it should hold, in any order: [a]|"
-     "before it: replica 0's 0.1 (line 3) answered [a], which holds what it should; since then it received nothing|"
+     "before it: replica 0's 0.1 (line 3) answered [a], as it should; since then it received nothing|"
      "[a] inserted by 0.1 (line 3), an earlier operation of replica 0|"
      "[a] deleted by 1.1 (line 5), which replica 0 got only after this response, in line 7 (0 recv 1 1)" + stop(6, "replica 0 reads the list")),
     ("a deleted element shown", 2, "0 ins a 0 : a|0 del a :|1 recv 0 2|1 read : a",
@@ -326,13 +326,13 @@ WORDS = [
     ("a deleted element in a view", 1, "0 ins a 0 : a|0 ins b 1 : a b|0 del a : b|0 view : a",
      "contents 0.4: this view has one element that should not be there.|"
      "line 6 of the trace, 0.4: replica 0 showed a part of the list|answered: [a]|it may hold any part of what replica 0 had by then: b|"
-     "before it: replica 0's 0.3 (line 5) answered b, which holds what it should; since then it received nothing|Extra|"
+     "before it: replica 0's 0.3 (line 5) answered b, as it should; since then it received nothing|Extra|"
      "[a] inserted by 0.1 (line 3), an earlier operation of replica 0|[a] deleted by 0.3 (line 5), an earlier operation of replica 0"),
     ("a name twice in a view", 1, "0 ins a 0 : a|0 view : a a", "answered: [a] [a]|it may hold any part of what replica 0 had by then: a|"
      "Named more than once|[a] inserted by 0.1 (line 3), an earlier operation of replica 0"),
     ("a read after a view", 1, "0 ins a 0 : a|0 view :|0 read :",
      "contents 0.3: this response lacks one element that replica 0 should have had by then.|"
-     "answered: (nothing)|it should hold, in any order: [a]|before it: replica 0's 0.2 (line 4) answered (nothing), which holds what it should; since then it received nothing|Missing"),
+     "answered: (nothing)|it should hold, in any order: [a]|before it: replica 0's 0.2 (line 4) answered (nothing), as it should; since then it received nothing|Missing"),
     ("a view against an insert", 2, "0 ins a 0 : a|0 ins b 1 : a b|0 ins c 2 : a b c|1 recv 0 3|1 view : c a",
      "refused 2: two responses can't be right together.|"
      "[a] before [c]: line 5 of the trace, 0.3: replica 0 inserted c at position 2, answered [a] b [c]|"
@@ -365,7 +365,7 @@ WORDS = [
     ("a second delete of one element takes its neighbour", 2, "0 ins a 0 : a|0 ins b 1 : a b|1 recv 0 2|1 read : a b|0 del a : b|1 del a : b|"
      "1 recv 0 3|1 read :",
      "contents 1.3: this response lacks one element that replica 1 should have had by then.|answered: (nothing)|"
-     "it should hold, in any order: [b]|before it: replica 1's 1.2 (line 8) answered [b], which holds what it should; since then it received 0.3 (line 9)|"
+     "it should hold, in any order: [b]|before it: replica 1's 1.2 (line 8) answered [b], as it should; since then it received 0.3 (line 9)|"
      "Missing|[b] inserted by 0.2 (line 4), which arrived at replica 1 in line 5 (1 recv 0 2)|"
      "[b] was put behind a. When it arrived at replica 1 in line 5, a was still there|[b] is never deleted||"
      "Where to look|"
@@ -648,7 +648,7 @@ OF_OTHERS = {"positions": {"identifiers", "between", "behind unknown", "numbers"
 LOST_MESSAGES = {"lost": (150, 60, 1.0), "dropped": (150, 80, 0.97)}
 
 NO_INSERT = ", which no line inserts, so nothing was there to delete: the name is wrong, or its insert was not recorded"
-NOT_READ = "in the end replicas 0 and 1 show different lists, maybe only because replica 1 was not read at the end"
+NOT_READ = "the last lists that replicas 0 and 1 show differ, maybe only because replica 1 was not read at the end"
 UNHEARD = ("no receipt brings it an insert or a delete from there, so nothing shows how it applies these. At the end of a session let "
            "everyone receive everything, and then read the list")
 IT, THEY = "Unless it was still on its way, it was lost or is held back", "Unless they were still on their way, they were lost or are held back"
@@ -659,23 +659,23 @@ WARNED = [
      "replica 1 has no entry: nothing that it showed is judged"),
     ("a replica with receipts alone", 2, "0 ins a 0 : a|1 recv 0 1",
      "replica 1 has receipts, but no operation: nothing that it showed is judged"),
-    ("a delete of what nothing inserts", 1, "0 ins a 0 : a|0 del A : a|0 del a :", "line 4, 0.2: replica 0 deleted the element A" + NO_INSERT),
+    ("a delete of what nothing inserts", 1, "0 ins a 0 : a|0 del A : a|0 del a :", "line 4, 0.2: replica 0 deleted `A`" + NO_INSERT),
     ("seven of them", 2, "1 read :|" + "|".join(f"0 del a{i} :" for i in range(7)) + "|1 recv 0 7|1 read :",
-     "|".join(f"line {i + 4}, 0.{i + 1}: replica 0 deleted the element a{i}" + NO_INSERT for i in range(5))
+     "|".join(f"line {i + 4}, 0.{i + 1}: replica 0 deleted `a{i}`" + NO_INSERT for i in range(5))
      + "|and 2 more deletes of elements that no line inserts"),
     ("an insert past the end", 1, "0 ins a 0 : a|0 ins b 2 : a b|0 ins c 2 : a b c|0 ins d 4294967295 : a b c d",
      f"line 4, 0.2: replica 0 inserted b at position 2, past the end of a list of length 1, so it counts as the end: is position 2 right?|"
      f"line 6, 0.4: replica 0 inserted d at position 4294967295, past the end of a list of length 3, so it counts as the end: is position 4294967295 right?"),
     ("two that never hear of one another", 2, "0 ins a 0 : a|1 ins b 0 : b|0 read : a|1 read : b",
-     f"in the end replicas 0 and 1 show different lists|replica 0 never hears of replica 1: {UNHEARD}|replica 1 never hears of replica 0: {UNHEARD}"),
+     f"the last lists that replicas 0 and 1 show differ|replica 0 never hears of replica 1: {UNHEARD}|replica 1 never hears of replica 0: {UNHEARD}"),
     ("one that never hears of three others", 4, "0 ins a 0 : a|1 del a :|1 recv 0 1|2 ins c 0 : c|2 recv 1 1|2 recv 0 1|0 recv 2 1|"
      "0 recv 1 1|1 recv 2 1|3 read :",
      f"replica 0 shows no list after its last receipts, of 2.1 (line 9) and 1.1 (line 10): {UNSHOWN}|"
      f"replica 1 shows no list after its last receipts, of 0.1 (line 5) and 2.1 (line 11): {UNSHOWN}|"
      f"replica 2 shows no list after its last receipts, of 1.1 (line 7) and 0.1 (line 8): {UNSHOWN}|"
-     f"in the end replicas 0, 1, 2 and 3 do not all show the same list (1 and 3 do)|replica 3 never hears of replicas 0, 1 and 2: {UNHEARD}"),
+     f"the last lists that replicas 0, 1, 2 and 3 show are not all the same (those of 1 and 3 are)|replica 3 never hears of replicas 0, 1 and 2: {UNHEARD}"),
     ("one that hears of a read alone", 2, "0 read :|1 recv 0 1|1 read :|0 ins a 0 : a",
-     f"in the end replicas 0 and 1 show different lists|replica 1 never hears of replica 0: {UNHEARD}"),
+     f"the last lists that replicas 0 and 1 show differ|replica 1 never hears of replica 0: {UNHEARD}"),
     ("all hear by way of a third", 3, "0 ins a 0 : a|2 recv 0 1|2 read : a|1 ins b 0 : b|1 recv 2 1|2 recv 1 1|2 read : b a|0 recv 2 2|"
      "0 read : b a|1 read : b a", ""),
     ("one that hears at the end", 2, "0 ins a 0 : a|1 read :|1 recv 0 1",
@@ -688,14 +688,14 @@ WARNED = [
     ("one that reads is not heard of", 2, "0 ins a 0 : a|1 recv 0 1|1 read : a", ""),
     ("a delete before its insert", 2, "0 ins a 0 : a|1 del a :|1 recv 0 1|1 read :|0 recv 1 1|0 read :", ""),
     ("an insert that never arrives", 2, "0 ins a 0 : a|1 recv 0 1|1 read : a|0 ins b 1 : a b|1 read : a",
-     f"in the end replicas 0 and 1 show different lists: 0.2 (line 6) never arrived at replica 1 in this recording. {IT}"),
+     f"the last lists that replicas 0 and 1 show differ: 0.2 (line 6) never arrived at replica 1 in this recording. {IT}"),
     ("a delete that never arrives", 2, "0 ins a 0 : a|1 recv 0 1|0 del a :|1 read : a",
-     f"in the end replicas 0 and 1 show different lists: 0.2 (line 5) never arrived at replica 1 in this recording. {IT}"),
+     f"the last lists that replicas 0 and 1 show differ: 0.2 (line 5) never arrived at replica 1 in this recording. {IT}"),
     ("an insert and its delete that never arrive", 2, "0 ins a 0 : a|1 recv 0 1|0 ins b 1 : a b|0 del b : a|1 read : a",
      f"in this recording 0.2 (line 5) and 0.3 (line 6) never arrived at replica 1. {THEY}"),
     ("changes that never arrive, at two replicas", 3, "0 ins a 0 : a|1 recv 0 1|2 recv 0 1|1 read : a|2 read : a|0 ins b 0 : b a|0 ins c 0 : c b a|"
      "0 ins d 0 : d c b a|0 ins e 0 : e d c b a|2 recv 0 3|2 read : c b a",
-     "in the end replicas 0, 1 and 2 show different lists: 0.2 (line 8), 0.3 (line 9), 0.4 (line 10) and 1 more never arrived at replica 1; "
+     "the last lists that replicas 0, 1 and 2 show differ: 0.2 (line 8), 0.3 (line 9), 0.4 (line 10) and 1 more never arrived at replica 1; "
      f"0.4 (line 10) and 0.5 (line 11) never arrived at replica 2 in this recording. {THEY}"),
     ("one that makes nothing of what came last", 2, "0 ins a 0 : a|1 recv 0 1|1 read : a|0 ins b 1 : a b|0 read : a b|1 recv 0 3",
      f"replica 1 shows no list after its last receipt, of 0.3 (line 8): {UNSHOWN}|{NOT_READ}"),
@@ -749,8 +749,8 @@ Extra
 [a] deleted by 0.3 (line 7), which arrived at replica 1 in line 10 (1 recv 0 3, written by the call `delivered`)
 
 Where to look
-It looks as if 0.2 (line 6) never reached replica 1: no response there shows it, and only what the call `delivered` wrote (line 10) says that it arrived. \
-It was lost, or is held back for ever; or `delivered` was called too early. Later changes perhaps wait for it: 0.3 (line 7). Look at what keeps changes waiting.
+It looks as if 0.2 (line 6) never reached replica 1, so that later changes perhaps wait for it: 0.3 (line 7). No response there shows it, and only what the call `delivered` wrote (line 10) says that it arrived. \
+It was lost, or is held back for ever; or `delivered` was called too early. Look at what keeps changes waiting.
 
 In a debugger
 stop before line 6 of the trace, where replica 0 inserts b, and follow 0.2 to replica 1.
@@ -1204,7 +1204,7 @@ def places(tally: Tally, program: str, folder: str) -> None:
     side.write_text("6\n5 a.py:1, called from b.py:9\n")
     got = explain(program, [str(path)])
     tally.check("places: in a warning, the nearest", warned(got) == [
-        f"in the end replicas 0 and 1 show different lists: 0.2 (line 5, a.py:1) never arrived at replica 1 in this recording. {IT}"], got)
+        f"the last lists that replicas 0 and 1 show differ: 0.2 (line 5, a.py:1) never arrived at replica 1 in this recording. {IT}"], got)
     path.write_text(text_of(2, PLACED))
     for beside, wanted in STATEMENTS:
         side.write_text(f"7\n{beside}")
@@ -1768,7 +1768,7 @@ FIRST_TOLD = {
         "[l] was put directly behind n (0.1 (line 3)), and n and [o] were inserted at the front without knowing of each other. n is deleted at replica 0, which never showed n and [o] together: perhaps it still keeps n, but on the other side of [o] than replica 2 has it. Then "
         "[l], put rightly beside n, stands there too. So look first at where these concurrent inserts were put when they arrived: n in line 5 (replica 2), o in line 6 (replica 2) and o in line 10 (replica 0)."),
     "one replica alone in its order": ("positions", 3, "2 ins a 0 : a|2 ins b 0 : b a|1 ins c 0 : c|2 recv 1 1|2 read : b c a|0 recv 1 1|0 recv 2 1|0 read : a c|1 recv 2 1|1 read : a c",
-        "Replicas 0 and 1 show a before c. Replica 2 alone shows them the other way round, first in 2.3 (line 7): so look first at what it did in line 6, when 1.1 came. When 1.1 arrived, replica 2 had two changes of its own that the author of 1.1 did not know yet: the insert of a by 2.1 (line 3) and the insert of b by 2.2 (line 4). 1.1 must be adjusted for each of these in turn, and each of these for 1.1 as it is by then. Changes that still wait to be sent count too."),
+        "Replicas 0 and 1 show a before c. Replica 2 alone shows them the other way round, first in 2.3 (line 7): so look first at what it did in line 6, when 1.1 came. When 1.1 arrived, replica 2 had two changes of its own that the author of 1.1 did not know yet: the insert of a by 2.1 (line 3) and the insert of b by 2.2 (line 4). Take these one after another: adjust 1.1 for each, and each for 1.1 as adjusted so far. Changes that still wait to be sent count too."),
     "one replica alone, with one change on its way": ("positions", 3, "2 ins a 0 : a|1 ins c 0 : c|2 recv 1 1|2 read : c a|0 recv 1 1|0 recv 2 1|0 read : a c|1 recv 2 1|1 read : a c",
         "Replicas 0 and 1 show a before c. Replica 2 alone shows them the other way round, first in 2.2 (line 6): so look first at what it did in line 5, when 1.1 came. When 1.1 arrived, replica 2 had one change of its own that the author of 1.1 did not know yet, the insert of a by 2.1 (line 3): this and 1.1 must each be adjusted for the other."),
     "an order that its author knew, with one change on its way": ("positions", 2, "0 ins a 0 : a|1 recv 0 1|1 read : a|1 ins c 1 : a c|0 ins b 0 : b a|1 recv 0 2|1 read : a b c",
@@ -1835,7 +1835,7 @@ def first_told(tally: Tally, program: str, folder: str) -> None:
     for kind, server in ("positions", ", and at what the server (if it adjusts positions) makes of that"), ("neighbours", ""):
         told = explain(program, ["--editor", kind, str(path)]).out.decode()
         tally.check(f"first told: {kind}: a delete that is wrong at two replicas", f"Replica 2 lacks b too, in 2.2 (line 13): so look first at what is sent{server}, and only then at replica 1. It looks as if" in told, told)
-    own = "When 0.2 arrived, replica 1 had two changes of its own that the author of 0.2 did not know yet: the insert of b by 1.2 (line 6) and the delete of a by 1.3 (line 7). 0.2 must be adjusted for each of these in turn, and each of these for 0.2 as it is by then."
+    own = "When 0.2 arrived, replica 1 had two changes of its own that the author of 0.2 did not know yet: the insert of b by 1.2 (line 6) and the delete of a by 1.3 (line 7). Take these one after another: adjust 0.2 for each, and each for 0.2 as adjusted so far."
     twice = "0 ins a 0 : a|1 recv 0 1|1 read : a|1 ins b 1 : a b|1 del a : b|0 del a :|1 recv 0 2|1 read :"
     for name, entries, lacks in ("alone", "", False), ("and a third that has got its delete", "|2 recv 1 3|2 recv 0 2|2 read :", False), ("and a third that hasn't", "|2 recv 1 2|2 recv 0 2|2 read :", True):
         path.write_text(text_of(3, twice + entries))
@@ -2607,7 +2607,7 @@ def weak(tally: Tally, program: str, folder: str) -> None:
     got = explain(program, ["--weak", "-"], text_of(3, THREE_WAY).encode())
     lines = got.out.decode().split("\n")
     tally.check("weak: warnings", got.status == 0 and lines[0].startswith("weak holds, strong doesn't, with three warnings: this passes") and
-                lines[2] == "What this verdict may hide" and lines[3].startswith("  in the end replicas 0, 1 and 2 show different lists: 0.2 ") and
+                lines[2] == "What this verdict may hide" and lines[3].startswith("  the last lists that replicas 0, 1 and 2 show differ: 0.2 ") and
                 "  strong fails, weak holds" in lines, got)
     for name in "accepted", "crdt_el_accepted":
         trace = RIGHT if name == "accepted" else (ROOT / f"examples/{name}.trace").read_bytes()

@@ -93,7 +93,7 @@ WARNINGS = {
     "past": re.compile(r"line (\d+), \d+\.\d+: replica \d+ inserted "),
     "more": re.compile(r"and (\d+) more (?:deletes? of|inserts? past) "),
     "unheard": re.compile(r"replica (\d+) never hears of replicas? ([\d, and]+): "),
-    "ends": re.compile(r"(in the end replicas [\d, and]+ (?:show different lists|do not all show the same list)|in this recording )"),
+    "ends": re.compile(r"(the last lists that replicas [\d, and]+ show (?:differ|are not all the same)|in this recording )"),
     "unshown": re.compile(r"replica (\d+) shows no list(?: but a view)? after its last receipts?, of "),
 }
 LACKED = re.compile(r"((?:\d+\.\d+ \(line \d+\)(?:, | and )?|\d+ more )+) ?never arrived at replicas? (\d+(?:(?:, | and )\d+(?!\d|\.\d))*)")
@@ -770,7 +770,7 @@ def warnings(tally: Tally, program: str, folder: str) -> None:
         (f"{folder}/{name}.trace", count) for name, count in (("lost", "1"), ("apart", "3"), ("fine", "0")))], lines)
     tally.check("noted: the column", [cells(line)[7] for line in lines[:4]] == ["noted", "-", "-", "seed 17"], lines)
     tally.check("unequal: the verdict, and the count", [cells(line)[1] for line in lines[1:4]] == ["failed", "accepted, unequal", "accepted"]
-                and lines[4:] == ["3 traces: 2 accepted, 1 failed", "1 of those accepted is unequal: in the end replicas show different lists, or lack an "
+                and lines[4:] == ["3 traces: 2 accepted, 1 failed", "1 of those accepted is unequal: the last lists that replicas show differ, or lack an "
                                   "insert or a delete (with --unequal they count as failures)"], lines)
     error, *warned = got.err.decode().splitlines()
     cut = f"the trace may have been cut at a line's end: it has 4 lines, and {folder}/lost.trace.lines says that 9 were saved"
@@ -800,15 +800,15 @@ def unequal(tally: Tally, program: str, folder: str) -> None:
     (case,) = xml.parse(junit_file).getroot().iter("testcase")
     told = case.find("system-out").text.splitlines()
     tally.check("unequal: JUnit's output", [node.tag for node in case] == ["system-out"] and len(told) == 3
-                and told[0] == "warning: in the end replicas 0 and 1 show different lists", told)
+                and told[0] == "warning: the last lists that replicas 0 and 1 show differ", told)
     got = judge(program, ["--unequal", "--failing", "--junit", junit_file, one, f"{folder}/fine.trace"])
     lines = got.out.decode().splitlines()
     tally.check("unequal: it fails where that is asked for", got.status == 1 and [cells(line)[:2] for line in lines[1:2]] == [(one, "accepted, unequal")]
-                and lines[2:] == ["2 traces: 2 accepted", "1 of those accepted is unequal: in the end replicas show different lists, or lack an insert or a "
+                and lines[2:] == ["2 traces: 2 accepted", "1 of those accepted is unequal: the last lists that replicas show differ, or lack an insert or a "
                                   "delete (counted as failures)"], got)
     faults = [(fault.tag, fault.get("type"), fault.get("message")) for case in xml.parse(junit_file).getroot().iter("testcase") for fault in case]
-    tally.check("unequal: JUnit's failure", faults == [("failure", "unequal", "accepted, but unequal in the end: in the end replicas 0 and 1 show different "
-                                                        "lists")], faults)
+    tally.check("unequal: JUnit's failure", faults == [("failure", "unequal", "accepted, but unequal in the end: the last lists that replicas 0 and 1 "
+                                                        "show differ")], faults)
     got = judge(program, ["--unequal", f"{folder}/fine.trace"])
     tally.check("unequal: all are equal", got.status == 0, got)
     silent = Path(folder, "silent.trace")
@@ -966,7 +966,7 @@ def grouped(tally: Tally, program: str, folder: str) -> None:
     got = judge(program, ["--junit", f"{folder}/junit.xml", folder])
     rows = [cells(line) for line in got.out.decode().splitlines()]
     tally.check("grouped: the rows", [(Path(row[0]).stem, row[6]) for row in rows[:-1]] == [
-        ("file", "similar"), ("a", "1"), ("c", "0"), ("d", "0"), ("e", "0")] and rows[-1] == ("5 traces: 5 contents; 1 more looks the same as a listed one (`similar`)",), rows)
+        ("file", "similar"), ("a", "1"), ("c", "0"), ("d", "0"), ("e", "0")] and rows[-1] == ("5 traces: 5 contents; 1 of them has no row, since a row looks the same (`similar`)",), rows)
     tally.check("grouped: JUnit has each", len(list(xml.parse(f"{folder}/junit.xml").getroot().iter("failure"))) == 5)
     objects = [json.loads(line) for line in judge(program, ["--json", folder]).out.decode().splitlines()]
     tally.check("grouped: JSON has each", sorted((Path(row["file"]).stem, row["causes"][-1], row.get("place")) for row in objects) == [
@@ -2036,7 +2036,7 @@ def script_of_ci(tally: Tally, program: str, folder: str) -> None:
     write(str(place), {"apart/a.trace": "0 ins a 0 : a|1 ins b 0 : b"})
     done = in_ci(str(place), path, f"{script} apart --unequal", {"GITHUB_ACTIONS": "true"})
     tally.check("script of CI: unequal, where that fails", done.returncode == 1 and done.stdout.startswith(
-        "::error file=apart/a.trace,title=apart/a.trace%3A accepted::accepted, but unequal in the end: in the end replicas 0 and 1 show different lists\n"), done)
+        "::error file=apart/a.trace,title=apart/a.trace%3A accepted::accepted, but unequal in the end: the last lists that replicas 0 and 1 show differ\n"), done)
     write(str(place), {"odd/a.trace": "0 inz a 0 : a", "odd/b.trace": "0 ins a 0 : a|0 read :"})
     done = in_ci(str(place), path, f"{script} odd", {})
     tally.check("script of CI: the first that has a verdict is explained whole", done.returncode == 2 and done.stdout.count("\nWhere to look\n") == 1 and
@@ -2157,7 +2157,7 @@ WEAK = {"alone.trace": f"{CYCLE}|1 recv 0 2|1 recv 2 1|1 read : b a|2 recv 0 2|2
 WEAK_ROWS = [("lost.trace", "contents", "-", "no", "14", "14"), ("opposite.trace", "refused", "2", "no", "14", "17"),
              ("unequal.trace", "weak holds, strong doesn't, unequal", "3", "yes", "-", "11"),
              ("alone.trace", "weak holds, strong doesn't", "3", "yes", "-", "17"), ("right.trace", "accepted", "-", "yes", "-", "7")]
-UNEQUAL = "1 of those that pass is unequal: in the end replicas show different lists, or lack an insert or a delete ({})"
+UNEQUAL = "1 of those that pass is unequal: the last lists that replicas show differ, or lack an insert or a delete ({})"
 
 
 def weak(tally: Tally, program: str, folder: str) -> None:
@@ -2177,7 +2177,7 @@ def weak(tally: Tally, program: str, folder: str) -> None:
     tally.check("weak: the counts", lines[6:] == ["5 traces: 1 accepted, 2 weak alone, 1 refused, 1 contents",
                                                   UNEQUAL.format("with --unequal they count as failures")], lines[6:])
     tally.check("weak: status 1, and warnings", got.status == 1 and got.err.decode().startswith(
-        f"domepeeler-judge-many: {folder}/unequal.trace: warning: in the end replicas 0, 1 and 2 show different lists"), got)
+        f"domepeeler-judge-many: {folder}/unequal.trace: warning: the last lists that replicas 0, 1 and 2 show differ"), got)
     usual = judge(program, [folder])
     told = usual.out.decode()
     tally.check("weak: not asked for", usual.status == 1 and "weak" not in told and not usual.err and told.endswith(
@@ -2223,7 +2223,7 @@ def weak_junit(tally: Tally, program: str, folder: str) -> None:
         first, = cases["unequal.trace"]
         begins = "weak holds, strong doesn't: this passes" if not more else "weak holds, strong doesn't, but unequal in the end: in the end"
         tally.check(f"weak: JUnit's unequal case {more}", first.tag == ("failure" if more else "system-out") and first.text.startswith(begins)
-                    and "in the end replicas 0, 1 and 2 show different lists" in first.text, first.text)
+                    and "the last lists that replicas 0, 1 and 2 show differ" in first.text, first.text)
         first, = cases["opposite.trace"]
         tally.check(f"weak: JUnit's failed case {more}", first.tag == "failure" and first.get("message").startswith("refused 2: ") and
                     "Up to line 13 the weak specification holds; with line 14 the verdict is `refused 2`" in first.text, first.text)
@@ -2254,7 +2254,7 @@ def weak_in_ci(tally: Tally, program: str, folder: str) -> None:
                     "2 failed: judged/junit.xml has them all, and judged/1.html is the page of the first\n"), done.stdout)
     done = in_ci(project, path, f"{script} --unequal", github)
     tally.check("weak: an unequal one in GitHub", "::error file=recordings/unequal.trace,title=recordings/unequal.trace%3A weak holds%2C strong "
-                "doesn't::weak holds, strong doesn't, but unequal in the end: in the end replicas 0, 1 and 2" in done.stdout, done.stdout)
+                "doesn't::weak holds, strong doesn't, but unequal in the end: the last lists that replicas 0, 1 and 2" in done.stdout, done.stdout)
     for name in "lost", "opposite", "unequal":
         os.remove(f"{project}/recordings/{name}.trace")
     done = in_ci(project, path, script, github)

@@ -16,9 +16,9 @@ LOCAL = ("The replica received nothing between {before} and this response, so lo
 APPLIED_TWICE = ("It looks as if {changes} {were} applied twice at replica {replica}: look at what the editor does with a change that arrives a second "
                  "time{back}, and at whether a change that was held back is applied twice: on arrival and again later.")
 OWN_BACK = " (a server may send a replica its own changes back)"
-UNDELIVERED = ("It looks as if {changes} never reached replica {replica}: no response there shows {them}, and only what the call `delivered` wrote ({lines}) says that {they} arrived. {They} lost, or "
-               "{are} held back for ever; or `delivered` was called too early.{waiting} Look at what keeps changes waiting.")
-WAITING = " Later changes perhaps wait for {it}: {others}."
+UNDELIVERED = ("It looks as if {changes} never reached replica {replica}{waiting}. No response there shows {them}, and only what the call `delivered` wrote ({lines}) says that {they} arrived. {They} lost, or "
+               "{are} held back for ever; or `delivered` was called too early. Look at what keeps changes waiting.")
+WAITING = ", so that later changes perhaps wait for {it}: {others}"
 NO_PLACE = (" Perhaps {insert} finds no place there for {element}: its neighbour {neighbours}. An editor that throws deleted elements away too "
             "early loses such an insert or holds it back for ever.")
 NOT_APPLIED = ("It looks as if {changes} {were} not applied at replica {replica}: lost, or held back{received}.{later}{elsewhere}{other}")

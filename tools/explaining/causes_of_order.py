@@ -131,8 +131,8 @@ TURNED_BY_ITSELF = ("Replica {replica} shows {two} before {one} in {before}, and
                     "recorded did that: ")
 MOVED_INSERT = ("If the editor sends positions, the position of {element} was perhaps not adjusted for {changes}, which replica {replica} "
                 "knew and the author of {element} did not{back}.")
-MOVED_BACK = {True: "; or the position of that delete was not adjusted for {inserts}, which its author had not seen",
-              False: "; or the position of one of these deletes was not adjusted for an insert that its author had not seen ({inserts})"}
+MOVED_BACK = {True: "; or the position of that delete was not adjusted for {inserts}, which the author of the delete had not seen",
+              False: "; or the position of one of these deletes was not adjusted for an insert that the author of the delete had not seen ({inserts})"}
 
 
 def of_position(evidence: Evidence) -> list:

@@ -132,20 +132,20 @@ def write_small(path: str, evidence: Evidence, told: Evidence, program: str, kno
     placed = [f"{number} {known.places[line]}" for number, line in enumerate(small.lines, FIRST_ENTRY) if line in known.places]
     if os.path.isfile(path):  # a pipe or a device has no file beside it
         write(path + SIDE, "".join(f"{line}\n" for line in [len(lines), SMALL_MARK.decode(), *known.marks(small.lines), *placed]))
-    print(f"\n{shown(path)} has {len(lines)} lines, and the whole trace {len(evidence.recording.lines)}. {same_as(evidence, told)} It keeps only what the verdict needs. What causes the bug may be among "
+    print(f"\n{shown(path)} {same_as(evidence, told, len(lines))} It keeps only what the verdict needs. What causes the bug may be among "
           "what was left out: if you repeat these steps, your editor may answer differently. The operations of the small trace, and which of the whole trace they are:")
     made = Recording(small.text)
     named = [f"small {name} = whole {operation.name} (line {operation.line}{f'; {WHAT[operation.kind]} there, a read here' if made.operation(name).kind != operation.kind else ''})" for name, operation in small.operations]
     print("  " + "; ".join(named[:MOST_TOLD]) + (f"; and {len(named) - MOST_TOLD} more" if len(named) > MOST_TOLD else ""))
 
 
-def same_as(evidence: Evidence, told: Evidence) -> str:
-    """In what the small trace is the same."""
-    if told.last_line == len(evidence.recording.lines) or told.report == evidence.report:
-        return "The verdict is the same."
-    if told.report["verdict"] == "refused":
-        return f"It is {verdict_of(told.report)}, as the first {told.last_line} lines of the whole trace are."
-    return f"Its verdict is `{told.report['verdict']}`, as that of the first {told.last_line} lines of the whole trace."
+def same_as(evidence: Evidence, told: Evidence, count: int) -> str:
+    """Which verdict a small trace of so many lines has, and which beginning of the whole trace has it too."""
+    whole = len(evidence.recording.lines)
+    if told.last_line == whole or told.report == evidence.report:
+        return f"has, in {count} lines, the verdict that the whole trace has in {whole}."
+    verdict = verdict_of(told.report) if told.report["verdict"] == "refused" else f"`{told.report['verdict']}`"
+    return f"has, in {count} lines, the verdict of the first {told.last_line} of the whole trace's {whole} lines: {verdict}."
 
 
 def explain(asked: argparse.Namespace, program: str, trace: bytes, side: Side, judged: Judged) -> int:

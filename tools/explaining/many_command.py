@@ -179,7 +179,7 @@ def print_table(rows: list, listed: list, is_weak: bool) -> None:
     counts = Counter("weak alone" if row.weak_alone else row.verdict for row in rows)
     told = ", ".join(f"{counts[kind]} {kind}" for kind in [*KINDS[:1], "weak alone", *KINDS[1:]] if counts[kind])
     similar = sum(more for _, more in rows_told)
-    unlisted = f"; {similar} more look{'s' if similar == 1 else ''} the same as a listed one (`similar`)" if similar else ""
+    unlisted = f"; {similar} of them {'has' if similar == 1 else 'have'} no row, since a row looks the same (`similar`)" if similar else ""
     print(f"{len(rows)} trace{'' if len(rows) == 1 else 's'}: {told}{unlisted}")
     if others:
         print(FIRST_FAULT.format(others[0].fails_at, others[0].first_fault))
@@ -199,7 +199,7 @@ def print_unequal(rows: list, asked: argparse.Namespace) -> None:
     if count:
         told = "counted as failures" if asked.unequal else "with --unequal they count as failures"
         of_those = "those that pass" if asked.weak else "those accepted"
-        print(f"{count} of {of_those} {'is' if count == 1 else 'are'} unequal: in the end replicas show different lists, or lack an "
+        print(f"{count} of {of_those} {'is' if count == 1 else 'are'} unequal: the last lists that replicas show differ, or lack an "
               f"insert or a delete ({told})")
 
 

@@ -111,7 +111,7 @@ def hidden(trace: bytes) -> tuple:
                 past_end.append(f"line {line}, {replica}.{n}: replica {replica} inserted {words[2].decode()} at position "
                                 f"{words[3].decode()}, past the end of a list of length {before}, so it counts as the end: is position {words[3].decode()} right?")
         elif kind == b"del":
-            deletes.append((words[2], f"line {line}, {replica}.{n}: replica {replica} deleted the element {words[2].decode()}, which no line inserts, "
+            deletes.append((words[2], f"line {line}, {replica}.{n}: replica {replica} deleted `{words[2].decode()}`, which no line inserts, "
                             "so nothing was there to delete: the name is wrong, or its insert was not recorded"))
     of_nothing = [told for name, told in deletes if name not in inserted]
     others = [*some(of_nothing, "delete", "of elements that no line inserts"), *some(past_end, "insert", "past the end of a list")]
@@ -150,8 +150,8 @@ def different(replicas: list, late: dict) -> list:
     if len(lists) < 2:
         return [f"in this recording {lacking_told}. {lost}"] if never else []
     among = joined(sorted(replica for same in lists.values() for replica in same))
-    same = [f"{joined(one)} do" for one in lists.values() if len(one) > 1]
-    told = f"in the end replicas {among} " + (f"do not all show the same list ({'; '.join(same)})" if same else "show different lists")
+    same = [f"those of {joined(one)} are" for one in lists.values() if len(one) > 1]
+    told = f"the last lists that replicas {among} show " + (f"are not all the same ({'; '.join(same)})" if same else "differ")
     return [f"{told}: {lacking_told} in this recording. {lost}" if never else told + only_late(lists.values(), late)]
 
 

@@ -100,7 +100,7 @@ def when_it_went_wrong(evidence: Evidence, told: Evidence, weak: bool) -> list:
     before = "the weak specification holds" if weak and not is_alone else "the session is accepted"
     lines = [f"{did(entry, is_first=True)}. Up to line {last - 1} {before}; with line {last} the verdict is {verdict}"]
     if told.report["verdict"] == "refused":
-        still = "agrees with all responses up to then" if weak and not is_alone else "fits"
+        still = "which agrees with all responses up to then" if weak and not is_alone else "which fits"
         is_refused = evidence.report["verdict"] == "refused"  # else what is shown in the end is wrong by itself
         lines += [since(told, entry, still), *(in_the_end(evidence.recording, told.elements) if is_refused and not told.unreceived else [])]
     else:
@@ -329,7 +329,7 @@ def expected(evidence: Evidence, operation: Operation) -> str:
     return f"it should hold, in any order: {marked(wanted, set(evidence.missing))}"
 
 
-def since(evidence: Evidence, operation: Operation, still: str = "holds what it should") -> str:
+def since(evidence: Evidence, operation: Operation, still: str = "as it should") -> str:
     """What came to the replica since its operation before, which is right: the program names the first fault."""
     before, receipts = evidence.before(operation)
     arrived = [f"{receipt.seen.name} (line {receipt.line})" for receipt in receipts]
@@ -338,7 +338,7 @@ def since(evidence: Evidence, operation: Operation, still: str = "holds what it 
     if not before:
         return f"before it: replica {operation.replica} did nothing, and {came}"
     list_before = marked(before[0].response, set(evidence.elements) if evidence.report["verdict"] == "contents" else set())
-    return f"before it: replica {operation.replica}'s {at(before[0])} answered {list_before}, which {still}; since then it {came}"
+    return f"before it: replica {operation.replica}'s {at(before[0])} answered {list_before}, {still}; since then it {came}"
 
 
 def brought(evidence: Evidence, operation: Operation) -> list:
@@ -447,8 +447,9 @@ def not_arrived(recording: Recording, seen: Operation, operation: Operation) -> 
     late = recording.arrival(seen, operation.replica)
     if late is None:
         return f", and replica {operation.replica} has no receipt of it"
-    came = "" if late.seen is seen else f": {why_after(late.seen, seen)}"
-    return f", which replica {operation.replica} got only after this response, in line {late.line} ({late.text}){came}"
+    by = "" if late.seen is seen else "a later operation of the same author, " if late.seen.replica == seen.replica else "whose author had it, "
+    came = f": with {late.seen.name}, {by}in" if by else ", in"
+    return f", which replica {operation.replica} got only after this response{came} line {late.line} ({late.text})"
 
 
 def position(evidence: Evidence) -> tuple:
