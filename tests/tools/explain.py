@@ -63,9 +63,12 @@ def stop(line: int, doing: str, *others: int, together: int = 0) -> str:
     doing += f"; if nothing is wrong there, stop at {arrivals[len(others) > 1]} ({before})" if others else ""
     asked = f"if recording.lines() == {line - 1}: breakpoint()"
     where = "right before the call that reads the list" if "reads the list" in doing else "right before the call that makes the editor apply a change, local or remote"
-    or_first = f", and already when {together - 1} have, in case one call applies lines {together} {'and' if together + 1 == line else 'to'} {line} together" if together else ""
+    stops = f"It stops when {line - 1} lines have been recorded."
+    if together:
+        both = f"{together} {'and' if together + 1 == line else 'to'} {line}"
+        stops = f"It stops when {together - 1} lines have been recorded, since one call may apply lines {both} together; and again at {line - 1} lines."
     asked = f"if recording.lines() in ({together - 1}, {line - 1}): breakpoint()" if together else asked
-    where += f". It stops when {line - 1} lines have been recorded{or_first}."
+    where += f". {stops}"
     return f"|In a debugger|stop before line {line} of the trace, where {doing}.|In Python, put this code {where}|{asked}"
 
 
@@ -118,10 +121,10 @@ WORDS = [
      "Where to look|When replica 0 inserted [s] (0.8, line 22), it had [z] already, and put [s] before it. That order must hold everywhere, but 1.9 (line 24) shows [s] behind [z]. "
      "Look at the message that replica 0 made for that insert, and at where replica 1 placed it in line 23. Often the clock that decides between inserts does not advance when changes arrive, or advances past only the first element of a paste; or the neighbour is not found; or elements are stored in runs (blocks of several), and a run is split at a wrong offset (the offset must count deleted elements too).|If inserts find their place by a neighbour, look at inserts beside deleted elements: s came to replica 1 in line 23, where its neighbour r had been "
      "deleted. If replicas throw deleted elements away, nothing says then where the insert belongs; if they keep them, the search for its place must treat them like elements that are shown.|"
-     "If the list is sorted by position identifiers, print those of r, s and z at line 22. If they do not rise in this order, look at how the identifier of s was made; if they do, at how "
+     "If the list is sorted by position identifiers, print those of r, s and z at line 22. They must rise in this order. If they do not, look at how the identifier of s was made; if they do, at how "
      "identifiers are compared (numbers must not be compared as text).|If the editor sends positions, the position of s was perhaps not adjusted for the delete of a by 1.2 (line 9), the delete of b "
-     "by 1.4 (line 13), the delete of c by 1.6 (line 17) and the delete of r by 1.8 (line 21), which replica 1 knew and the author of s did not; or the position of one of these deletes was not "
-     "adjusted for an insert that the author of the delete had not seen (the insert of p by 0.5 (line 10), the insert of q by 0.6 (line 14) and the insert of r by 0.7 (line 18))." + stop(23, "replica 1 applies 0.8", 7)),
+     "by 1.4 (line 13), the delete of c by 1.6 (line 17) and the delete of r by 1.8 (line 21), which replica 1 knew and the author of s did not. Or one of these deletes was itself not "
+     "adjusted for an insert (the insert of p by 0.5 (line 10), the insert of q by 0.6 (line 14) and the insert of r by 0.7 (line 18))." + stop(23, "replica 1 applies 0.8", 7)),
     ("a local delete whose change names another element than the one that is gone", 2, "0 ins a 0 : a|1 recv 0 1|1 ins b 1 : a b|1 del a : b|1 del c :",
      "Where to look|1.3 (line 7) deletes c; but c does not stand in 1.2 (line 6) and no line inserts it, while b is gone. Look at which ids a local delete puts into "
      "the change that it sends: where it deletes several, each element has an id of its own, and these need not be consecutive." + stop(7, "replica 1 deletes c", together=6)),
@@ -147,7 +150,7 @@ WORDS = [
      "[b] before [a]: line 7, 0.2: replica 0 read the list, answered [b] [a]|"
      "a arrived at replica 1 in line 4, b at replica 0 in line 6|"
      "When replica 1 inserted [b] (1.1, line 5), it had [a] already (since line 4), and put [b] behind it. That order must hold everywhere, but 0.2 (line 7) shows [b] before [a]. Look at the message that replica 1 made for that insert, and at where replica 0 placed it in line 6. Often the clock that decides between inserts does not advance when changes arrive, or advances past only the first element of a paste; or the neighbour is not found; or elements are stored in runs (blocks of several), and a run is split at a wrong offset.|"
-     "If the list is sorted by position identifiers, print those of a and b at line 5. If they do not rise in this order, look at how the identifier of b was made; if they do, at how identifiers are compared (numbers must not be compared as text)." + stop(6, "replica 0 applies 1.1", 4)),
+     "If the list is sorted by position identifiers, print those of a and b at line 5. They must rise in this order. If they do not, look at how the identifier of b was made; if they do, at how identifiers are compared (numbers must not be compared as text)." + stop(6, "replica 0 applies 1.1", 4)),
     ("three-way cycle", 3, THREE_WAY,
      "refused 3: three responses can't be right together. Any two of them can.|"
      "[x] before [b]: line 7 of the trace, 2.1: replica 2 inserted b at position 1, answered [x] [b]|"
@@ -172,7 +175,7 @@ WORDS = [
      "If inserts find their place by a neighbour, look at inserts beside deleted elements: d "
      "came to replica 1 in line 10, where its neighbour b had been deleted. If replicas throw deleted elements away, nothing says then where the insert belongs; if they keep them, the search for its place must treat them like elements that are shown.|"
      "When replica 0 inserted [d] (0.3, line 9), it had [c] already (since line 6), and put [d] before it. That order must hold everywhere, but 1.3 (line 11) shows [d] behind [c]. Look at the message that replica 0 made for that insert, and at where replica 1 placed it in line 10. Often the clock that decides between inserts does not advance when changes arrive, or advances past only the first element of a paste; or the neighbour is not found; or elements are stored in runs (blocks of several), and a run is split at a wrong offset (the offset must count deleted elements too).|"
-     "If the list is sorted by position identifiers, print those of b, d and c at line 9. If they do not rise in this order, look at how the identifier of d was made; if they do, at how identifiers are compared (numbers must not be compared as text).|If the editor "
+     "If the list is sorted by position identifiers, print those of b, d and c at line 9. They must rise in this order. If they do not, look at how the identifier of d was made; if they do, at how identifiers are compared (numbers must not be compared as text).|If the editor "
      "sends positions, the position of d was perhaps not adjusted for the delete of b by 1.2 (line 8), which replica 1 knew and the author of d did not." + stop(10, "replica 1 applies 0.3", 6)),
     ("an insert between two that were put together", 2, "0 ins a 0 : a|0 ins b 1 : a b|1 ins c 0 : c|1 recv 0 2|1 read : a c b|0 recv 1 1|0 read : a b c",
      "[c] before [b]: line 7, 1.2: replica 1 read the list, answered a [c] [b]|Where to look|"
@@ -232,7 +235,7 @@ WORDS = [
      "Look at positions beside deleted elements: any two of 2.1, 0.3 and 1.1 fit together, but not all three; perhaps an insert lost its place "
      "because its neighbour was deleted meanwhile. Look first at where replica 0 placed b in line 10: it belongs beside x, which had been deleted there.|"
      "For the verdict on the whole trace: look at where a replica places an incoming insert beside a deleted element: [a] was put before [x] (1.1, line 6), and [b] behind it (2.1, line 7), so [x] settles their order, also where it is deleted; yet 0.3 (line 11) shows them the other way round. The rule for concurrent inserts must not decide this.|For the verdict on the whole trace: if the list is sorted by position identifiers, look at those of a and b: are the two equal, does one differ between replicas, are numbers compared as text, or is one of them not between the identifiers of its neighbours?|For the verdict on the whole trace: if the editor sends positions, the position of b was perhaps not adjusted for the delete of x by 0.2 (line 8), which replica 1 "
-     "knew and the author of b did not; or the position of that delete was not adjusted for the insert of a by 1.1 (line 6), which the author of the delete had not seen.|"
+     "knew and the author of b did not; Or that delete was itself not adjusted for the insert of a by 1.1 (line 6).|"
      "" + stop(10, "replica 0 applies 2.1", 9, 5, 4, together=9) + "||What the whole trace shows: a circle, which no order allows|"
      "[a] before [b]: line 14, 1.2: replica 1 read the list, answered [a] [b]|"
      "[b] before [a]: line 11, 0.3: replica 0 read the list, answered [b] [a]"),
@@ -287,7 +290,7 @@ WORDS = [
      "answered: (nothing)|it should hold, in any order: [a]|"
      "before it: replica 0's 0.1 (line 3) answered [a], as it should; since then it received nothing|"
      "[a] inserted by 0.1 (line 3), an earlier operation of replica 0|"
-     "[a] deleted by 1.1 (line 5), which replica 0 got only after this response, in line 7 (0 recv 1 1)" + stop(6, "replica 0 reads the list")),
+     "[a] deleted by 1.1 (line 5). Replica 0 got 1.1 only after this response, in line 7 (0 recv 1 1)" + stop(6, "replica 0 reads the list")),
     ("a deleted element shown", 2, "0 ins a 0 : a|0 del a :|1 recv 0 2|1 read : a",
      "contents 1.1: this response has one element that should not be there.|"
      "answered: [a]|it should hold, in any order: (nothing)|Extra|"
@@ -361,7 +364,7 @@ WORDS = [
     ("a position before the one that was asked for, beside a deleted element", 1, "0 ins a 0 : a|0 ins b 1 : a b|0 del a : b|0 ins c 1 : c b",
      "asked for: position 1; the answer has [b] there|found at: position 0||Where to look|"
      "Look at how the position that a user sees is mapped to a place in the editor's own list (deleted elements may still stand there); and "
-     "at whether the recorder writes the position that was asked for.|If the list is sorted by position identifiers, print those of b and c at line 6. If they do not rise in this order, look at how the identifier of c was made; if they do, at how identifiers are compared (numbers must not be compared as text)." + stop(6, "replica 0 inserts c")),
+     "at whether the recorder writes the position that was asked for.|If the list is sorted by position identifiers, print those of b and c at line 6. They must rise in this order. If they do not, look at how the identifier of c was made; if they do, at how identifiers are compared (numbers must not be compared as text)." + stop(6, "replica 0 inserts c")),
     ("a second delete of one element takes its neighbour", 2, "0 ins a 0 : a|0 ins b 1 : a b|1 recv 0 2|1 read : a b|0 del a : b|1 del a : b|"
      "1 recv 0 3|1 read :",
      "contents 1.3: this response lacks one element that replica 1 should have had by then.|answered: (nothing)|"
@@ -450,7 +453,7 @@ WORDS = [
      "Replica 1 itself changed the order of elements that it had shown: a before b in 1.2 (line 6), b before a in 1.3 (line 9). Between the two it received the delete of x by 0.2 (line 7). "
      "Look at what decides which of b and a comes first: once both are inserted, their order must never change, whatever is inserted, deleted or received later.|"
      "Replica 1 inserted both b and a itself. If the editor takes back its own changes when changes of others arrive, and applies them again (rebasing), look at where that puts them.|"
-     "If the list is sorted by position identifiers, print those of a, x and b at line 6. If they do not rise in this order, look at how the identifier of a was made; if they do, at how "
+     "If the list is sorted by position identifiers, print those of a, x and b at line 6. They must rise in this order. If they do not, look at how the identifier of a was made; if they do, at how "
      "identifiers are compared (numbers must not be compared as text)." + stop(8, "replica 1 applies 0.2")),
     ("a number that does not grow at one replica", 1, "0 ins b 0 : b|0 ins a 0 : b a", "Where to look|"
      "If the editor decides by numbers (a clock, ids) which of two inserts at one place comes first, look at theirs: a stands behind b, which replica 0 had already. To stand before, a needs a number greater than that of b; perhaps its number is not greater. Usual causes: the clock does not advance with each insert; ids are compared as text, so 10 comes before 9.|"),
@@ -749,8 +752,8 @@ Extra
 [a] deleted by 0.3 (line 7), which arrived at replica 1 in line 10 (1 recv 0 3, written by the call `delivered`)
 
 Where to look
-It looks as if 0.2 (line 6) never reached replica 1, so that later changes perhaps wait for it: 0.3 (line 7). No response there shows it, and only what the call `delivered` wrote (line 10) says that it arrived. \
-It was lost, or is held back for ever; or `delivered` was called too early. Look at what keeps changes waiting.
+It looks as if 0.2 (line 6) never reached replica 1. Only the receipts that the call `delivered` wrote (line 10) say that 0.2 arrived; no response of replica 1 shows it. \
+Perhaps 0.2 was lost, or is held back for ever, or `delivered` was called too early. Later changes that perhaps wait for 0.2: 0.3 (line 7). Look at what keeps changes waiting.
 
 In a debugger
 stop before line 6 of the trace, where replica 0 inserts b, and follow 0.2 to replica 1.
@@ -1002,7 +1005,7 @@ def beginning(tally: Tally, program: str, text: str, report: dict, said: str) ->
     tally.check("refused: what it showed then, and the whole trace", steps == wanted, f"{text}{report}\n{said}")
     titles = [line for line in front.splitlines() if line.startswith("What the")]
     tally.check("refused: under which title", titles == ["What these responses show: a circle, which no order allows"], said)
-    others = "the same verdict, but its report names other responses" if behind["k"] == report["k"] else f"another verdict, `refused {report['k']}`, which is explained below"
+    others = "the same verdict" if behind["k"] == report["k"] else f"another verdict, `refused {report['k']}`, which is explained below"
     ending = f" This fault comes first, in lines 1 to {last}: start with it. The whole trace has {others}."
     headline = said.splitlines()[0]
     tally.check("refused: the whole trace's number", (ending in headline if is_other else "This is what went wrong first" not in headline)
@@ -1217,7 +1220,7 @@ def places(tally: Tally, program: str, folder: str) -> None:
     for name, wanted in FOR_TWO.items():
         got = explain(program, ["--language", name, "-"], text_of(2, "0 ins a 0 : a|0 ins b 1 : a b|1 recv 0 1|1 recv 0 2|1 read : a").encode()).out.decode()
         tally.check(f"a debugger: {name}, receipts that stand together", paragraph(got, "In a debugger").endswith(
-            f". It stops when 5 lines have been recorded, and already when 4 have, in case one call applies lines 5 and 6 together.\n    {wanted}"), got)
+            f". It stops when 4 lines have been recorded, since one call may apply lines 5 and 6 together; and again at 5 lines.\n    {wanted}"), got)
     undelivered(tally, program, folder)
     path.write_text(text_of(2, PLACED))
     for beside, wanted in NOTES:
@@ -1246,7 +1249,7 @@ def undelivered(tally: Tally, program: str, folder: str) -> None:
         tally.check(f"undelivered: {name}", UNDELIVERED_WORDS in told, said)
     kept = small.read_text().splitlines()[2:], Path(f"{small}.lines").read_text().splitlines()
     again = explain(program, [str(small)]).out.decode()
-    tally.check("undelivered: the small trace says the same", "only what the call `delivered` wrote (line " in again and kept[1][0] == str(2 + len(kept[0])), (kept, again))
+    tally.check("undelivered: the small trace says the same", "the receipts that the call `delivered` wrote (line " in again and kept[1][0] == str(2 + len(kept[0])), (kept, again))
     for beside in "11\n", "11\ndelivered 3 3\n", "11\ndelivered x\n":
         Path(f"{path}.lines").write_text(beside)
         said = explain(program, [str(path)]).out.decode()
@@ -1768,7 +1771,7 @@ FIRST_TOLD = {
         "[l] was put directly behind n (0.1 (line 3)), and n and [o] were inserted at the front without knowing of each other. n is deleted at replica 0, which never showed n and [o] together: perhaps it still keeps n, but on the other side of [o] than replica 2 has it. Then "
         "[l], put rightly beside n, stands there too. So look first at where these concurrent inserts were put when they arrived: n in line 5 (replica 2), o in line 6 (replica 2) and o in line 10 (replica 0)."),
     "one replica alone in its order": ("positions", 3, "2 ins a 0 : a|2 ins b 0 : b a|1 ins c 0 : c|2 recv 1 1|2 read : b c a|0 recv 1 1|0 recv 2 1|0 read : a c|1 recv 2 1|1 read : a c",
-        "Replicas 0 and 1 show a before c. Replica 2 alone shows them the other way round, first in 2.3 (line 7): so look first at what it did in line 6, when 1.1 came. When 1.1 arrived, replica 2 had two changes of its own that the author of 1.1 did not know yet: the insert of a by 2.1 (line 3) and the insert of b by 2.2 (line 4). Take these one after another: adjust 1.1 for each, and each for 1.1 as adjusted so far. Changes that still wait to be sent count too."),
+        "Replicas 0 and 1 show a before c. Replica 2 alone shows them the other way round, first in 2.3 (line 7): so look first at what it did in line 6, when 1.1 came. When 1.1 arrived, replica 2 had two changes of its own that the author of 1.1 did not know yet: the insert of a by 2.1 (line 3) and the insert of b by 2.2 (line 4). 1.1 must be adjusted for all of these, one after another, and each of them for 1.1. Changes that still wait to be sent count too."),
     "one replica alone, with one change on its way": ("positions", 3, "2 ins a 0 : a|1 ins c 0 : c|2 recv 1 1|2 read : c a|0 recv 1 1|0 recv 2 1|0 read : a c|1 recv 2 1|1 read : a c",
         "Replicas 0 and 1 show a before c. Replica 2 alone shows them the other way round, first in 2.2 (line 6): so look first at what it did in line 5, when 1.1 came. When 1.1 arrived, replica 2 had one change of its own that the author of 1.1 did not know yet, the insert of a by 2.1 (line 3): this and 1.1 must each be adjusted for the other."),
     "an order that its author knew, with one change on its way": ("positions", 2, "0 ins a 0 : a|1 recv 0 1|1 read : a|1 ins c 1 : a c|0 ins b 0 : b a|1 recv 0 2|1 read : a b c",
@@ -1835,7 +1838,7 @@ def first_told(tally: Tally, program: str, folder: str) -> None:
     for kind, server in ("positions", ", and at what the server (if it adjusts positions) makes of that"), ("neighbours", ""):
         told = explain(program, ["--editor", kind, str(path)]).out.decode()
         tally.check(f"first told: {kind}: a delete that is wrong at two replicas", f"Replica 2 lacks b too, in 2.2 (line 13): so look first at what is sent{server}, and only then at replica 1. It looks as if" in told, told)
-    own = "When 0.2 arrived, replica 1 had two changes of its own that the author of 0.2 did not know yet: the insert of b by 1.2 (line 6) and the delete of a by 1.3 (line 7). Take these one after another: adjust 0.2 for each, and each for 0.2 as adjusted so far."
+    own = "When 0.2 arrived, replica 1 had two changes of its own that the author of 0.2 did not know yet: the insert of b by 1.2 (line 6) and the delete of a by 1.3 (line 7). 0.2 must be adjusted for all of these, one after another, and each of them for 0.2."
     twice = "0 ins a 0 : a|1 recv 0 1|1 read : a|1 ins b 1 : a b|1 del a : b|0 del a :|1 recv 0 2|1 read :"
     for name, entries, lacks in ("alone", "", False), ("and a third that has got its delete", "|2 recv 1 3|2 recv 0 2|2 read :", False), ("and a third that hasn't", "|2 recv 1 2|2 recv 0 2|2 read :", True):
         path.write_text(text_of(3, twice + entries))
@@ -1897,7 +1900,7 @@ def first_told(tally: Tally, program: str, folder: str) -> None:
         for kind in "", "neighbours", "positions":
             told = explain(program, [*(["--editor", kind] if kind else []), str(path)]).out.decode()
             tally.check(f"first told: {kind}: what another had deleted came back, by {what}", (words in told) == (kind != "positions") and (
-                f"since then it received 2.{2 + (what == 'several')} (line {line})\n  that should have brought: {brought}\n") in told, told)
+                f"since then it received 2.{2 + (what == 'several')} (line {line})\n  {'these receipts stand' if what == 'several' else 'this receipt stands'} for: {brought}\n") in told, told)
     path.write_text(text_of(3, "0 ins a 0 : a|0 ins b 1 : a b|1 recv 0 2|2 recv 0 2|1 ins c 1 : a c b|2 ins d 1 : a d b|0 del a : b|0 del b :|2 recv 0 4|2 read : d b|1 recv 0 4|1 read : c b"))
     told = explain(program, ["--editor", "neighbours", str(path)]).out.decode()
     tally.check("first told: deletes that stop at others' elements, at two replicas", "0.4 (line 10) was not applied at replica 2: lost, or held back, or `received` is called before the change is applied.\n" in told, told)

@@ -386,17 +386,17 @@ IN_TURN = "0 ins a 0 : a|1 recv 0 1|1 ins b 1 : a b|0 recv 1 1|0 read : a b|1 re
 IN_COMMON = {
     "deleted twice": ([(5, BEGUN_TWICE)], [(2, RIGHT_TWICE), (10, RIGHT_ONCE)], [
         "  a delete arrived whose element was deleted there already: this came before the wrong list in all 5; 2 of the 12 that pass have it too",
-        "  a change arrived whose author lacked at least one of the receiver's own changes: this came before the wrong list in all 5; 2 of the 12 that pass have it too"]),
+        "  a change arrived that was concurrent with one of the receiver's own: this came before the wrong list in all 5; 2 of the 12 that pass have it too"]),
     # Of 48 correct lists 12 come so: one in each failing session, two in each of the four that pass.
     "at one place": ([(4, f"{TIED} b a")], [(4, f"{TIED} a b"), (4, IN_TURN)], [
         "  an insert arrived at a place where an element stood that the insert's author had not seen: this came just before the wrong list in all 4, and just before 25 % of the correct lists",
-        "  a change arrived whose author lacked at least one of the receiver's own changes: this came just before the wrong list in all 4, and just before 25 % of the correct lists",
+        "  a change arrived that was concurrent with one of the receiver's own: this came just before the wrong list in all 4, and just before 25 % of the correct lists",
         "  Up to where they fail, 4 of the 4 have no deletes: so the bug does not need these."]),
     "none that pass, and few lists": ([(3, BEGUN_ONCE)], [], []),
     # Of 24 correct lists 8 come so.
     "none that pass": ([(8, f"{TIED} b a")], [], [
         "  an insert arrived at a place where an element stood that the insert's author had not seen: this came just before the wrong list in all 8, and just before 33 % of the correct lists",
-        "  a change arrived whose author lacked at least one of the receiver's own changes: this came just before the wrong list in all 8, and just before 33 % of the correct lists",
+        "  a change arrived that was concurrent with one of the receiver's own: this came just before the wrong list in all 8, and just before 33 % of the correct lists",
         "  Up to where they fail, 8 of the 8 have no deletes: so the bug does not need these."]),
     "too few": ([(2, BEGUN_TWICE)], [(10, RIGHT_ONCE)], []),
     "nothing stands out": ([(3, BEGUN_TWICE)], [(9, RIGHT_TWICE)], []),
@@ -770,8 +770,8 @@ def warnings(tally: Tally, program: str, folder: str) -> None:
         (f"{folder}/{name}.trace", count) for name, count in (("lost", "1"), ("apart", "3"), ("fine", "0")))], lines)
     tally.check("noted: the column", [cells(line)[7] for line in lines[:4]] == ["noted", "-", "-", "seed 17"], lines)
     tally.check("unequal: the verdict, and the count", [cells(line)[1] for line in lines[1:4]] == ["failed", "accepted, unequal", "accepted"]
-                and lines[4:] == ["3 traces: 2 accepted, 1 failed", "1 of those accepted is unequal: the last lists that replicas show differ, or lack an "
-                                  "insert or a delete (with --unequal they count as failures)"], lines)
+                and lines[4:] == ["3 traces: 2 accepted, 1 failed", "1 of those accepted is unequal: replicas end with different lists, or an "
+                                  "insert or a delete never arrived (with --unequal these count as failures)"], lines)
     error, *warned = got.err.decode().splitlines()
     cut = f"the trace may have been cut at a line's end: it has 4 lines, and {folder}/lost.trace.lines says that 9 were saved"
     said = [line.partition(": warning: ") for line in warned]
@@ -804,8 +804,8 @@ def unequal(tally: Tally, program: str, folder: str) -> None:
     got = judge(program, ["--unequal", "--failing", "--junit", junit_file, one, f"{folder}/fine.trace"])
     lines = got.out.decode().splitlines()
     tally.check("unequal: it fails where that is asked for", got.status == 1 and [cells(line)[:2] for line in lines[1:2]] == [(one, "accepted, unequal")]
-                and lines[2:] == ["2 traces: 2 accepted", "1 of those accepted is unequal: the last lists that replicas show differ, or lack an insert or a "
-                                  "delete (counted as failures)"], got)
+                and lines[2:] == ["2 traces: 2 accepted", "1 of those accepted is unequal: replicas end with different lists, or an insert or a "
+                                  "delete never arrived (counted as failures)"], got)
     faults = [(fault.tag, fault.get("type"), fault.get("message")) for case in xml.parse(junit_file).getroot().iter("testcase") for fault in case]
     tally.check("unequal: JUnit's failure", faults == [("failure", "unequal", "accepted, but unequal in the end: the last lists that replicas 0 and 1 "
                                                         "show differ")], faults)
@@ -966,7 +966,7 @@ def grouped(tally: Tally, program: str, folder: str) -> None:
     got = judge(program, ["--junit", f"{folder}/junit.xml", folder])
     rows = [cells(line) for line in got.out.decode().splitlines()]
     tally.check("grouped: the rows", [(Path(row[0]).stem, row[6]) for row in rows[:-1]] == [
-        ("file", "similar"), ("a", "1"), ("c", "0"), ("d", "0"), ("e", "0")] and rows[-1] == ("5 traces: 5 contents; 1 of them has no row, since a row looks the same (`similar`)",), rows)
+        ("file", "similar"), ("a", "1"), ("c", "0"), ("d", "0"), ("e", "0")] and rows[-1] == ("5 traces: 5 contents; failures that look alike share a row (`similar`: how many others)",), rows)
     tally.check("grouped: JUnit has each", len(list(xml.parse(f"{folder}/junit.xml").getroot().iter("failure"))) == 5)
     objects = [json.loads(line) for line in judge(program, ["--json", folder]).out.decode().splitlines()]
     tally.check("grouped: JSON has each", sorted((Path(row["file"]).stem, row["causes"][-1], row.get("place")) for row in objects) == [
@@ -2157,7 +2157,7 @@ WEAK = {"alone.trace": f"{CYCLE}|1 recv 0 2|1 recv 2 1|1 read : b a|2 recv 0 2|2
 WEAK_ROWS = [("lost.trace", "contents", "-", "no", "14", "14"), ("opposite.trace", "refused", "2", "no", "14", "17"),
              ("unequal.trace", "weak holds, strong doesn't, unequal", "3", "yes", "-", "11"),
              ("alone.trace", "weak holds, strong doesn't", "3", "yes", "-", "17"), ("right.trace", "accepted", "-", "yes", "-", "7")]
-UNEQUAL = "1 of those that pass is unequal: the last lists that replicas show differ, or lack an insert or a delete ({})"
+UNEQUAL = "1 of those that pass is unequal: replicas end with different lists, or an insert or a delete never arrived ({})"
 
 
 def weak(tally: Tally, program: str, folder: str) -> None:
@@ -2175,7 +2175,7 @@ def weak(tally: Tally, program: str, folder: str) -> None:
         "weak", "-", "-"] and got_twice.status == 2, got_twice)
     shutil.rmtree(f"{folder}/twice")
     tally.check("weak: the counts", lines[6:] == ["5 traces: 1 accepted, 2 weak alone, 1 refused, 1 contents",
-                                                  UNEQUAL.format("with --unequal they count as failures")], lines[6:])
+                                                  UNEQUAL.format("with --unequal these count as failures")], lines[6:])
     tally.check("weak: status 1, and warnings", got.status == 1 and got.err.decode().startswith(
         f"domepeeler-judge-many: {folder}/unequal.trace: warning: the last lists that replicas 0, 1 and 2 show differ"), got)
     usual = judge(program, [folder])
@@ -2188,7 +2188,7 @@ def weak(tally: Tally, program: str, folder: str) -> None:
     tally.check("weak: status 0 where none fails", got.status == 0 and b"\n3 traces: 1 accepted, 2 weak alone\n" in got.out, got)
     got = judge(program, ["--weak", "--failing", *passing])
     tally.check("weak: none to list", got.status == 0 and got.out.decode().splitlines() == [
-        "3 traces: 1 accepted, 2 weak alone", UNEQUAL.format("with --unequal they count as failures")], got)
+        "3 traces: 1 accepted, 2 weak alone", UNEQUAL.format("with --unequal these count as failures")], got)
     got = judge(program, ["--weak", "--unequal", "--failing", *passing])
     tally.check("weak: unequal ones fail too", got.status == 1 and cells(got.out.decode().splitlines()[1])[:2] == (
         passing[2], "weak holds, strong doesn't, unequal") and UNEQUAL.format("counted as failures") in got.out.decode(), got)

@@ -20,15 +20,15 @@ NEVER_SENT = ("Look first at whether replica {author} has sent {changes} at all:
 OTHERS_HAVE = "all other changes of replica {author} have one"
 ELSEWHERE_ONE = {True: "at another replica it has one", False: "at other replicas they have some"}
 PUT_AT_ONCE = {True: " {others} was inserted at the same place as {element} concurrently: check also that every replica puts the same one first.",
-               False: " {others} were each inserted at the same place as {element}, concurrently with it: check also that every replica puts {element} and each of these in the same order."}
+               False: " Check also the order of {pairs}: these were inserted at one place concurrently, so every replica must put the same one first."}
 OWN_ADJUSTED = ("how the replica's own changes that are still on their way are adjusted for an arriving change, and how that is adjusted for them (each for the unadjusted form of the other). If "
                 "the editor takes its own changes back and applies them again, look at how it does that.")
 EMPTIED = ("Before that, in line {line}, replica {replica} received {change}, which deletes {element}. Replica {replica} had deleted {element} itself, by {other}, so {change} had nothing left to "
            "delete there. It must still be counted as received (message numbers, acknowledgements). Else later changes are adjusted once too often, or too seldom.")
 NONE_ON_WAY = "When {came} arrived, replica {replica} had no change of its own that the author of {came} did not know: so look at what the server (if it adjusts positions) made of {came}, and at what was sent before {came}."
 ONE_ON_WAY = "When {came} arrived, replica {replica} had one change of its own that the author of {came} did not know yet, {own}: this and {came} must each be adjusted for the other."
-SEVERAL_ON_WAY = ("When {came} arrived, replica {replica} had {count} changes of its own that the author of {came} did not know yet: {own}. Take these one after "
-                  "another: adjust {came} for each, and each for {came} as adjusted so far. Changes that still wait to be sent count too.")
+SEVERAL_ON_WAY = ("When {came} arrived, replica {replica} had {count} changes of its own that the author of {came} did not know yet: {own}. {came} must be adjusted for all "
+                  "of these, one after another, and each of them for {came}. Changes that still wait to be sent count too.")
 DELETED_TWICE = ("Before that, {element} was deleted at replica {replica} more than once: by {other}, and by {change}, which came in line {line}. If the editor counts how many elements it shows (in blocks, or "
                  "below the nodes of a tree), it must subtract each only once. Else all later local positions are counted wrongly.")
 BY_ITSELF = "perhaps deleted elements are thrown away there, changes that were held back are applied, or a copy of the list that is shown is made anew."
@@ -93,7 +93,8 @@ def is_deleted(evidence: Evidence, name: str) -> bool:
 
 
 def at_once(element: str, others: list) -> str:
-    return PUT_AT_ONCE[len(others) == 1].format(element=element, others=listed(others, MOST_TOLD))
+    pairs = [f"{element} and {others[0]}", *(f"that of {element} and {other}" for other in others[1:])]
+    return PUT_AT_ONCE[len(others) == 1].format(element=element, others=listed(others, MOST_TOLD), pairs=listed(pairs, MOST_TOLD))
 
 
 def named(changes: list) -> str:

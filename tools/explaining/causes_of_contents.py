@@ -16,9 +16,9 @@ LOCAL = ("The replica received nothing between {before} and this response, so lo
 APPLIED_TWICE = ("It looks as if {changes} {were} applied twice at replica {replica}: look at what the editor does with a change that arrives a second "
                  "time{back}, and at whether a change that was held back is applied twice: on arrival and again later.")
 OWN_BACK = " (a server may send a replica its own changes back)"
-UNDELIVERED = ("It looks as if {changes} never reached replica {replica}{waiting}. No response there shows {them}, and only what the call `delivered` wrote ({lines}) says that {they} arrived. {They} lost, or "
-               "{are} held back for ever; or `delivered` was called too early. Look at what keeps changes waiting.")
-WAITING = ", so that later changes perhaps wait for {it}: {others}"
+UNDELIVERED = ("It looks as if {changes} never reached replica {replica}. Only the receipts that the call `delivered` wrote ({lines}) say that {names} arrived; no response of replica {replica} shows it. Perhaps {names} "
+               "{were} lost, or {are} held back for ever, or `delivered` was called too early.{waiting} Look at what keeps changes waiting.")
+WAITING = " Later changes that perhaps wait for {names}: {others}."
 NO_PLACE = (" Perhaps {insert} finds no place there for {element}: its neighbour {neighbours}. An editor that throws deleted elements away too "
             "early loses such an insert or holds it back for ever.")
 NOT_APPLIED = ("It looks as if {changes} {were} not applied at replica {replica}: lost, or held back{received}.{later}{elsewhere}{other}")
@@ -244,9 +244,9 @@ def undelivered(evidence: Evidence) -> Cause:
     written = f"line{'' if len(lines) == 1 else 's'} {listed(list(map(str, lines)), MOST_TOLD)}"
     first = [change for change in changes if not any(other is not change and change.has_seen(other) for other in changes)]
     others = [change for change in changes if change not in first]
-    them, they = ("them", "they") if first[1:] else ("it", "it")
-    waiting = WAITING.format(others=changes_told(others)["changes"], it=them) if others else ""
-    told = UNDELIVERED.format(lines=written, replica=replica, waiting=waiting, them=them, they=they, **changes_told(first))
+    names = listed([change.name for change in first], MOST_TOLD)
+    waiting = WAITING.format(others=changes_told(others)["changes"], names=names) if others else ""
+    told = UNDELIVERED.format(lines=written, replica=replica, waiting=waiting, names=names, **changes_told(first))
     gone = [delete for delete in evidence.deleted_beside(first[0], replica) if delete not in changes]
     if not gone:
         return Cause("not delivered", told)

@@ -18,8 +18,8 @@ OF_INSERTS = {
           "author meant{deleted}.",
 }
 DELETED_TOO = {"": " (the offset must count deleted elements too)", NEIGHBOURS: " (the offset must count deleted elements too)", TREE: ", as where the element beside it is deleted", IDENTIFIERS: "", POSITIONS: ""}
-IDENTIFIERS_OF = ("If the list is sorted by position identifiers, print those of {names} at line {line}. If they do not rise in this order, look at how the identifier of {element} was made; if "
-                  "they do, at how identifiers are compared (numbers must not be compared as text).")
+IDENTIFIERS_OF = ("If the list is sorted by position identifiers, print those of {names} at line {line}. They must rise in this order. If they do not, look at how the identifier of {element} was "
+                  "made; if they do, at how identifiers are compared (numbers must not be compared as text).")
 SORTED = ("If the list is sorted by position identifiers, look at those of {names}: are {two} equal, does one differ between replicas, are numbers compared as text, or is one of them not between "
           "the identifiers of its neighbours?{circle}")
 NO_ORDER = " Or does the comparison go in a circle, as when numbers and authors are compared by turns?"
@@ -130,9 +130,9 @@ ONE_IS_WRONG = ("with a server or a relay, perhaps its acknowledgement of the re
 TURNED_BY_ITSELF = ("Replica {replica} shows {two} before {one} in {before}, and {one} before {two} in {after}, though it received and changed nothing between. Something that is not "
                     "recorded did that: ")
 MOVED_INSERT = ("If the editor sends positions, the position of {element} was perhaps not adjusted for {changes}, which replica {replica} "
-                "knew and the author of {element} did not{back}.")
-MOVED_BACK = {True: "; or the position of that delete was not adjusted for {inserts}, which the author of the delete had not seen",
-              False: "; or the position of one of these deletes was not adjusted for an insert that the author of the delete had not seen ({inserts})"}
+                "knew and the author of {element} did not.{back}")
+MOVED_BACK = {True: " Or that delete was itself not adjusted for {inserts}.",
+              False: " Or one of these deletes was itself not adjusted for an insert ({inserts})."}
 
 
 def of_position(evidence: Evidence) -> list:

@@ -142,12 +142,12 @@ def statement(recording: Recording, entry: Operation | Receipt, language: str) -
     name, words = LANGUAGES[language]
     is_read = isinstance(entry, Operation) and entry.kind in ("read", "view")
     first = first_together(recording, entry)
-    then, asked = f"It stops when {entry.line - 1} lines have been recorded", words.format(entry.line - 1)
+    then, asked = f"It stops when {entry.line - 1} lines have been recorded.", words.format(entry.line - 1)
     if first < entry.line:
         together = f"{first} {'and' if first + 1 == entry.line else 'to'} {entry.line}"
-        then += f", and already when {first - 1} have, in case one call applies lines {together} together"
+        then = f"It stops when {first - 1} lines have been recorded, since one call may apply lines {together} together; and again at {entry.line - 1} lines."
         asked = FOR_TWO[language].format(first - 1, entry.line - 1)
-    return [f"In {name}, put this code {READS if is_read else BEGINS}. {then}.", f"  {asked}"]
+    return [f"In {name}, put this code {READS if is_read else BEGINS}. {then}", f"  {asked}"]
 
 
 def first_together(recording: Recording, entry: Operation | Receipt) -> int:

@@ -143,9 +143,9 @@ def same_as(evidence: Evidence, told: Evidence, count: int) -> str:
     """Which verdict a small trace of so many lines has, and which beginning of the whole trace has it too."""
     whole = len(evidence.recording.lines)
     if told.last_line == whole or told.report == evidence.report:
-        return f"has, in {count} lines, the verdict that the whole trace has in {whole}."
+        return f"({count} lines) has the same verdict as the whole trace ({whole} lines)."
     verdict = verdict_of(told.report) if told.report["verdict"] == "refused" else f"`{told.report['verdict']}`"
-    return f"has, in {count} lines, the verdict of the first {told.last_line} of the whole trace's {whole} lines: {verdict}."
+    return f"({count} lines) has the same verdict as the first {told.last_line} lines of the whole trace: {verdict}."
 
 
 def explain(asked: argparse.Namespace, program: str, trace: bytes, side: Side, judged: Judged) -> int:

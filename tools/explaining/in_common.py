@@ -19,8 +19,8 @@ AT_FRONT, AT_END, FIRST_GONE, LAST_GONE = "at the front", "at the end", "first d
 UNSEEN = {(kind, other): f"{kind}, {other}" for kind in ("ins", "del") for other in ("ins", "del")}  # by what comes, and what its author had not seen
 IN_WORDS = {
     TWICE: "a delete arrived whose element was deleted there already",
-    OWN: "a change arrived whose author lacked at least one of the receiver's own changes",
-    SEVERAL_OWN: "a change arrived whose author lacked several of the receiver's own changes",
+    OWN: "a change arrived that was concurrent with one of the receiver's own",
+    SEVERAL_OWN: "a change arrived that was concurrent with several of the receiver's own",
     ONE_PLACE: "an insert arrived at a place where an element stood that the insert's author had not seen",
     BESIDE: "an insert arrived whose neighbour was deleted there",
     NAMES_GONE: "a change arrived that deletes, or stands beside, an element which was deleted there",

@@ -179,7 +179,7 @@ def print_table(rows: list, listed: list, is_weak: bool) -> None:
     counts = Counter("weak alone" if row.weak_alone else row.verdict for row in rows)
     told = ", ".join(f"{counts[kind]} {kind}" for kind in [*KINDS[:1], "weak alone", *KINDS[1:]] if counts[kind])
     similar = sum(more for _, more in rows_told)
-    unlisted = f"; {similar} of them {'has' if similar == 1 else 'have'} no row, since a row looks the same (`similar`)" if similar else ""
+    unlisted = "; failures that look alike share a row (`similar`: how many others)" if similar else ""
     print(f"{len(rows)} trace{'' if len(rows) == 1 else 's'}: {told}{unlisted}")
     if others:
         print(FIRST_FAULT.format(others[0].fails_at, others[0].first_fault))
@@ -197,10 +197,10 @@ def told_verdict(row: Row) -> str:
 def print_unequal(rows: list, asked: argparse.Namespace) -> None:
     count = sum(bool(row.unequal) for row in rows)
     if count:
-        told = "counted as failures" if asked.unequal else "with --unequal they count as failures"
+        told = "counted as failures" if asked.unequal else "with --unequal these count as failures"
         of_those = "those that pass" if asked.weak else "those accepted"
-        print(f"{count} of {of_those} {'is' if count == 1 else 'are'} unequal: the last lists that replicas show differ, or lack an "
-              f"insert or a delete ({told})")
+        print(f"{count} of {of_those} {'is' if count == 1 else 'are'} unequal: replicas end with different lists, or an "
+              f"insert or a delete never arrived ({told})")
 
 
 def print_in_common(rows: list, asked: argparse.Namespace) -> None:

@@ -50,7 +50,7 @@ def explanation(evidence: Evidence, told: Evidence, language: str = debuggers.US
     whole = whole_trace(evidence, told)
     is_alike = verdict_of(evidence.report) == verdict_of(told.report)  # then more responses would tell nothing new
     if whole:
-        more = "the same verdict, but its report names other responses" if is_alike else f"another verdict, {verdict_of(evidence.report)}, which is explained below"
+        more = "the same verdict" if is_alike else f"another verdict, {verdict_of(evidence.report)}, which is explained below"
         headline += f" This fault comes first, in lines 1 to {told.last_line}: start with it. The whole trace has {more}." if not passes else (
             f" Strong holds up to line {told.last_line - 1}; all below is about lines 1 to {told.last_line}{'' if is_alike else f'; the whole trace is {verdict_of(evidence.report)}'}.")
     if passes:
@@ -350,7 +350,7 @@ def brought(evidence: Evidence, operation: Operation) -> list:
     kept = [change for change in came if change.element not in gone]
     told = [did_there(evidence, change, operation.replica) for change in kept[:MOST_ARRIVED]]
     more = f" and {len(kept) - MOST_ARRIVED} more" if len(kept) > MOST_ARRIVED else ""
-    return [f"that should have brought: {', '.join(told)}{more}"] if told else []
+    return [f"{'these receipts stand' if receipts[1:] else 'this receipt stands'} for: {', '.join(told)}{more}"] if told else []
 
 
 def did_there(evidence: Evidence, change: Operation, replica: int) -> str:
@@ -447,9 +447,8 @@ def not_arrived(recording: Recording, seen: Operation, operation: Operation) -> 
     late = recording.arrival(seen, operation.replica)
     if late is None:
         return f", and replica {operation.replica} has no receipt of it"
-    by = "" if late.seen is seen else "a later operation of the same author, " if late.seen.replica == seen.replica else "whose author had it, "
-    came = f": with {late.seen.name}, {by}in" if by else ", in"
-    return f", which replica {operation.replica} got only after this response{came} line {late.line} ({late.text})"
+    together = "" if late.seen is seen else f" together with {late.seen.name}"
+    return f". Replica {operation.replica} got {seen.name} only after this response,{together} in line {late.line} ({late.text})"
 
 
 def position(evidence: Evidence) -> tuple:
