@@ -540,7 +540,7 @@ and takes time linear in the text."
            (strangers (domepeeler--unheard recording)))
       (append (domepeeler--refusals recording)
               (domepeeler--unshown warned late)
-              (domepeeler--different recording warned (unless strangers late))
+              (domepeeler--different recording warned late)
               strangers
               (domepeeler--without-operation recording warned)
               (domepeeler--some (domepeeler--warned-of-nothing warned) "delete" "of elements that no line inserts")
@@ -1007,13 +1007,13 @@ A letter stands first, as `2-0' would look like an operation's name."
 
 (defun domepeeler--different (recording warned late)
   "Whether the last lists that replicas showed differ as sets.
-And which changes never arrived at which replica.  Where all
-that are not in LATE show one list, that may be why."
+And which changes never arrived at which replica.  The lists of
+those in LATE are older ones, which is said by itself too."
   (let (lists alike (count 0))
     (cl-loop for entries across (domepeeler--warned-entries warned)
              for replica from 0
              for shown = (domepeeler--entries-shown entries)
-             when shown
+             when (and shown (not (assq replica late)))
              do (push replica (alist-get (sort (delete-dups (split-string shown " " t)) #'string<) lists nil nil #'equal)))
     (dolist (replica (domepeeler--acting recording))
       (let ((changes (domepeeler--lacked recording warned replica)))
@@ -1027,21 +1027,14 @@ that are not in LATE show one list, that may be why."
            (lost (if (and (= count 1) (null (cdr alike))) "Unless it was still on its way, it was lost or is held back" "Unless they were still on their way, they were lost or are held back"))
            (groups (mapcar (lambda (pair) (reverse (cdr pair))) (reverse lists)))
            (same (cl-loop for group in groups
-                          when (cdr group) collect (format "those of %s are" (domepeeler--joined group))))
-           (told (format "the last lists that replicas %s show %s" (domepeeler--joined (sort (apply #'append groups) #'<))
-                         (if same (format "are not all the same (%s)" (string-join same "; ")) "differ"))))
+                          when (cdr group) collect (format "%s show the same one" (domepeeler--joined group))))
+           (told (format "the last lists of replicas %s differ%s" (domepeeler--joined (sort (apply #'append groups) #'<))
+                         (if same (format " (%s)" (string-join same "; ")) ""))))
       (cond
        ((and (< (length groups) 2) (= count 0)) nil)
        ((< (length groups) 2) (list (format "in this recording %s. %s" never lost)))
-       ((= count 0) (list (concat told (domepeeler--only-late groups late))))
+       ((= count 0) (list told))
        (t (list (format "%s: %s in this recording. %s" told never lost)))))))
-
-(defun domepeeler--only-late (groups late)
-  (let ((unread (sort (cl-remove-if-not (lambda (replica) (assq replica late)) (apply #'append groups)) #'<)))
-    (if (cdr (cl-remove-if (lambda (group) (cl-every (lambda (replica) (assq replica late)) group)) groups))
-        ""
-      (format ", maybe only because replica%s %s %s not read at the end" (if (cdr unread) "s" "") (domepeeler--joined unread)
-              (if (cdr unread) "were" "was")))))
 
 (defun domepeeler--lacked (recording warned replica)
   "The changes that never arrived at REPLICA, with their lines.

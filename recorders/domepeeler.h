@@ -1417,14 +1417,14 @@ static inline size_t domepeeler_set(const char *shown, struct domepeeler_span *n
     return once;
 }
 
-/* Puts into `like` for each replica the first one whose last list has the same names, or -1 where it showed none. Answers how many lists
+/* Puts into `like` for each replica the first one whose last list has the same names, or -1 where it showed none, or is late. Answers how many lists
  * there are. */
 static inline size_t domepeeler_alike(const struct domepeeler_warned *w, int *like) {
     struct domepeeler_span *sets[DOMEPEELER_REPLICAS], *room = w->shown;
     size_t counts[DOMEPEELER_REPLICAS], lists = 0;
     for (int i = 0; i < w->d->replicas; i++) {
         like[i] = -1;
-        if (!w->of[i].shown) continue;
+        if (!w->of[i].shown || w->of[i].is_late) continue;
         sets[i] = room;
         counts[i] = domepeeler_set(w->of[i].shown, sets[i]);
         room += counts[i];
@@ -1459,23 +1459,6 @@ static inline size_t domepeeler_unheard(const struct domepeeler_warned *w, int r
     return count;
 }
 
-/* Where all hear of all, and those that are not late show one list: that the lists may differ since the late ones were not read. */
-static inline void domepeeler_say_only_late(const struct domepeeler_warned *w, const int *like) {
-    size_t count = 0, told = 0;
-    int settled = -1, others[DOMEPEELER_REPLICAS];
-    for (int i = 0; i < w->d->replicas; i++) {
-        if (domepeeler_unheard(w, i, others)) return;
-        if (like[i] < 0) continue;
-        if (!w->of[i].is_late && settled >= 0 && settled != like[i]) return;
-        if (!w->of[i].is_late) settled = like[i];
-        count += (size_t)w->of[i].is_late;
-    }
-    domepeeler_say(w->said, ", maybe only because replica%s ", domepeeler_plural(count));
-    for (int i = 0; i < w->d->replicas; i++)
-        if (like[i] >= 0 && w->of[i].is_late) domepeeler_say(w->said, "%s%d", domepeeler_joint(told++, count), i);
-    domepeeler_say(w->said, " %s not read at the end", count == 1 ? "was" : "were");
-}
-
 /* Whether the last lists that replicas showed differ as sets, and which changes never arrived at which replica. */
 static inline void domepeeler_say_different(const struct domepeeler_warned *w) {
     struct domepeeler_words never = {NULL, 0, 0, 0}, none = {NULL, 0, 0, 0};
@@ -1484,18 +1467,17 @@ static inline void domepeeler_say_different(const struct domepeeler_warned *w) {
     int like[DOMEPEELER_REPLICAS];
     w->said->is_short |= never.is_short;
     if (domepeeler_alike(w, like) > 1) {
-        domepeeler_say(w->said, "the last lists that replicas ");
+        domepeeler_say(w->said, "the last lists of replicas ");
         domepeeler_say_alike(w, w->said, like, -1);
         for (int i = 0; i < w->d->replicas; i++) groups += like[i] == i && domepeeler_say_alike(w, &none, like, i) > 1;
-        domepeeler_say(w->said, groups ? " show are not all the same" : " show differ");
+        domepeeler_say(w->said, " differ");
         for (int i = 0; i < w->d->replicas; i++) {
             if (like[i] != i || domepeeler_say_alike(w, &none, like, i) < 2) continue;
-            domepeeler_say(w->said, "%s", told ? "; those of " : " (those of ");
+            domepeeler_say(w->said, "%s", told ? "; " : " (");
             domepeeler_say_alike(w, w->said, like, i);
-            domepeeler_say(w->said, " are%s", ++told == groups ? ")" : "");
+            domepeeler_say(w->said, " show the same one%s", ++told == groups ? ")" : "");
         }
         if (count) domepeeler_say(w->said, ": %s in this recording. %s", never.text ? never.text : "", lost);
-        if (!count) domepeeler_say_only_late(w, like);
         domepeeler_say(w->said, "\n");
     } else if (count) {
         domepeeler_say(w->said, "in this recording %s. %s\n", never.text ? never.text : "", lost);

@@ -959,7 +959,7 @@ function hidden(lines) {
   const silent = ends.flatMap(({ pasts, receipts }, replica) => (pasts.length ? [] :
     [`replica ${replica} has ${receipts ? "receipts, but no operation" : "no entry"}: nothing that it showed is judged`]))
   const [late, strangers] = [receivedLast(ends), unheard(ends)]
-  return [...unshown(ends, late), ...different(ends, strangers.length ? new Map() : late), ...strangers, ...silent, ...some(ofNothing, "delete", "of elements that no line inserts"),
+  return [...unshown(ends, late), ...different(ends, late), ...strangers, ...silent, ...some(ofNothing, "delete", "of elements that no line inserts"),
     ...some(pastEnd, "insert", "past the end of a list")]
 }
 
@@ -973,11 +973,12 @@ function some(said, what, which) {
 }
 
 // Whether the last lists that replicas showed differ as sets, and which changes never arrived at which replica. Of an author of which a
-// replica never hears that is said by itself. Where all that are not late show one list, that may be why.
+// replica never hears that is said by itself. A late one's list is an older one, which is
+// said by itself too.
 function different(ends, late) {
   const lists = new Map()
   ends.forEach(({ shown }, replica) => {
-    if (shown === null) return
+    if (shown === null || late.has(replica)) return
     const set = [...new Set(shown)].sort().join(" ")
     lists.set(set, [...(lists.get(set) ?? []), replica])
   })
@@ -992,16 +993,9 @@ function different(ends, late) {
   const lost = isOne ? "Unless it was still on its way, it was lost or is held back" : "Unless they were still on their way, they were lost or are held back"
   if (lists.size < 2) return never.length ? [`in this recording ${never.join("; ")}. ${lost}`] : []
   const replicas = [...lists.values()].flat().sort((a, b) => a - b)
-  const same = [...lists.values()].filter((one) => one.length > 1).map((one) => `those of ${joined(one)} are`)
-  const said = `the last lists that replicas ${joined(replicas)} show ${same.length ? `are not all the same (${same.join("; ")})` : "differ"}`
-  return [never.length ? `${said}: ${never.join("; ")} in this recording. ${lost}` : said + onlyLate([...lists.values()], late)]
-}
-
-function onlyLate(groups, late) {
-  if (groups.filter((same) => same.some((replica) => !late.has(replica))).length > 1) return ""
-  const unread = groups.flat().filter((replica) => late.has(replica)).sort((a, b) => a - b)
-  const which = unread.length === 1 ? `replica ${unread[0]} was` : `replicas ${joined(unread)} were`
-  return `, maybe only because ${which} not read at the end`
+  const same = [...lists.values()].filter((one) => one.length > 1).map((one) => `${joined(one)} show the same one`)
+  const said = `the last lists of replicas ${joined(replicas)} differ${same.length ? ` (${same.join("; ")})` : ""}`
+  return [never.length ? `${said}: ${never.join("; ")} in this recording. ${lost}` : said]
 }
 
 // The changes that never arrived at the replica, in the order of the trace, as many as are told, and how many there are; none of an author

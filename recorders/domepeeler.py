@@ -973,7 +973,7 @@ def _hidden(lines: List[str]) -> List[str]:
     silent = [f"replica {replica} has {'receipts, but no operation' if one.receipts else 'no entry'}: nothing that it showed is judged"
               for replica, one in enumerate(ends) if not one.pasts]
     late, strangers = _received_last(ends), _unheard(ends)
-    return [*_unshown(ends, late), *_different(ends, {} if strangers else late), *strangers, *silent, *_some(of_nothing, "delete", "of elements that no line inserts"),
+    return [*_unshown(ends, late), *_different(ends, late), *strangers, *silent, *_some(of_nothing, "delete", "of elements that no line inserts"),
             *_some(past_end, "insert", "past the end of a list")]
 
 
@@ -988,10 +988,10 @@ def _some(told: List[str], what: str, which: str) -> List[str]:
 
 def _different(ends: List[_End], late: Dict[int, List[str]]) -> List[str]:
     """Whether the last lists that replicas showed differ as sets, and which changes never arrived at which replica. Of an author of which
-    a replica never hears that is said by itself. Where all that are not late show one list, that may be why."""
+    a replica never hears that is said by itself. A late one's list is an older one, which is said by itself too."""
     lists: Dict[frozenset[str], List[int]] = {}
     for replica, one in enumerate(ends):
-        if one.shown is not None:
+        if one.shown is not None and replica not in late:
             lists.setdefault(frozenset(one.shown.split()), []).append(replica)
     lacking = [(replica, _lacked(ends, replica)) for replica, one in enumerate(ends) if one.pasts]
     alike: Dict[str, List[int]] = {}
@@ -1004,17 +1004,9 @@ def _different(ends: List[_End], late: Dict[int, List[str]]) -> List[str]:
     if len(lists) < 2:
         return [f"in this recording {lacked}. {lost}"] if never else []
     among = _joined(map(str, sorted(sum(lists.values(), []))))
-    same = [f"those of {_joined(map(str, one))} are" for one in lists.values() if len(one) > 1]
-    told = f"the last lists that replicas {among} show " + (f"are not all the same ({'; '.join(same)})" if same else "differ")
-    return [f"{told}: {lacked} in this recording. {lost}" if never else told + _only_late(list(lists.values()), late)]
-
-
-def _only_late(groups: List[List[int]], late: Dict[int, List[str]]) -> str:
-    unread = sorted(replica for same in groups for replica in same if replica in late)
-    if sum(not late.keys() >= set(same) for same in groups) > 1:
-        return ""
-    which = f"replica {unread[0]} was" if len(unread) == 1 else f"replicas {_joined(map(str, unread))} were"
-    return f", maybe only because {which} not read at the end"
+    same = [f"{_joined(map(str, one))} show the same one" for one in lists.values() if len(one) > 1]
+    told = f"the last lists of replicas {among} differ" + (f" ({'; '.join(same)})" if same else "")
+    return [f"{told}: {lacked} in this recording. {lost}" if never else told]
 
 
 def _lacked(ends: List[_End], replica: int) -> Tuple[List[str], int]:

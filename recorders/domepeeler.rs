@@ -1371,7 +1371,7 @@ impl<'a> Warned<'a> {
         }
         let (late, strangers) = (self.received_last(), self.unheard());
         let mut all = self.unshown(&late);
-        all.extend(self.different(&if strangers.is_empty() { late } else { BTreeMap::new() }));
+        all.extend(self.different(&late));
         all.extend(strangers);
         all.extend(self.without_operation());
         all.extend(some(&self.of_nothing, "delete", "of elements that no line inserts"));
@@ -1393,11 +1393,11 @@ impl<'a> Warned<'a> {
         })
     }
 
-    /// Whether the last lists that replicas showed differ as sets, and which changes never arrived at which replica. Where all
-    /// that are not late show one list, that may be why.
+    /// Whether the last lists that replicas showed differ as sets, and which changes never arrived at which replica. A late
+    /// one's list is an older one, which is said by itself too.
     fn different(&self, late: &BTreeMap<usize, Vec<String>>) -> Vec<String> {
         let mut lists: Vec<(BTreeSet<&str>, Vec<usize>)> = Vec::new();
-        for (replica, entries) in self.replicas.iter().enumerate() {
+        for (replica, entries) in self.replicas.iter().enumerate().filter(|(replica, _)| !late.contains_key(replica)) {
             let list = entries.shown.map(|shown| shown.split_ascii_whitespace().collect());
             match list.map(|list| (lists.iter().position(|(other, _)| *other == list), list)) {
                 Some((Some(at), _)) => lists[at].1.push(replica),
@@ -1425,25 +1425,13 @@ impl<'a> Warned<'a> {
         let mut replicas: Vec<usize> = lists.iter().flat_map(|(_, of)| of).copied().collect();
         replicas.sort_unstable();
         let same: Vec<String> =
-            lists.iter().filter(|(_, of)| of.len() > 1).map(|(_, of)| format!("those of {} are", joined(of))).collect();
-        let differ = match same.join("; ") {
-            same if same.is_empty() => "differ".to_string(),
-            same => format!("are not all the same ({same})"),
+            lists.iter().filter(|(_, of)| of.len() > 1).map(|(_, of)| format!("{} show the same one", joined(of))).collect();
+        let same = match same.join("; ") {
+            same if same.is_empty() => String::new(),
+            same => format!(" ({same})"),
         };
-        let told = format!("the last lists that replicas {} show {differ}", joined(&replicas));
-        let is_settled = |of: &&Vec<usize>| of.iter().any(|replica| !late.contains_key(replica));
-        let is_only_late = lists.iter().map(|(_, of)| of).filter(is_settled).count() < 2;
-        replicas.retain(|replica| late.contains_key(replica));
-        vec![match (count, is_only_late) {
-            (0, false) => told,
-            (0, true) => format!(
-                "{told}, maybe only because replica{} {} {} not read at the end",
-                plural(replicas.len()),
-                joined(&replicas),
-                if replicas.len() == 1 { "was" } else { "were" }
-            ),
-            _ => format!("{told}: {never} in this recording. {lost}"),
-        }]
+        let told = format!("the last lists of replicas {} differ{same}", joined(&replicas));
+        vec![if count == 0 { told } else { format!("{told}: {never} in this recording. {lost}") }]
     }
 
     /// The changes that never arrived at the replica, with their lines; none of an author of which it never hears.

@@ -93,7 +93,7 @@ WARNINGS = {
     "past": re.compile(r"line (\d+), \d+\.\d+: replica \d+ inserted "),
     "more": re.compile(r"and (\d+) more (?:deletes? of|inserts? past) "),
     "unheard": re.compile(r"replica (\d+) never hears of replicas? ([\d, and]+): "),
-    "ends": re.compile(r"(the last lists that replicas [\d, and]+ show (?:differ|are not all the same)|in this recording )"),
+    "ends": re.compile(r"(the last lists of replicas [\d, and]+ differ|in this recording )"),
     "unshown": re.compile(r"replica (\d+) shows no list(?: but a view)? after its last receipts?, of "),
 }
 LACKED = re.compile(r"((?:\d+\.\d+ \(line \d+\)(?:, | and )?|\d+ more )+) ?never arrived at replicas? (\d+(?:(?:, | and )\d+(?!\d|\.\d))*)")
@@ -389,14 +389,14 @@ IN_COMMON = {
         "  a change arrived that was concurrent with one of the receiver's own: this came before the wrong list in all 5; 2 of the 12 that pass have it too"]),
     # Of 48 correct lists 12 come so: one in each failing session, two in each of the four that pass.
     "at one place": ([(4, f"{TIED} b a")], [(4, f"{TIED} a b"), (4, IN_TURN)], [
-        "  an insert arrived at a place where an element stood that the insert's author had not seen: this came just before the wrong list in all 4, and just before 25 % of the correct lists",
-        "  a change arrived that was concurrent with one of the receiver's own: this came just before the wrong list in all 4, and just before 25 % of the correct lists",
+        "  an insert arrived at a place where an element stood that the insert's author had not seen: this came just before the wrong list in all 4, and just before 25 % of the correct lists of all sessions",
+        "  a change arrived that was concurrent with one of the receiver's own: this came just before the wrong list in all 4, and just before 25 % of the correct lists of all sessions",
         "  Up to where they fail, 4 of the 4 have no deletes: so the bug does not need these."]),
     "none that pass, and few lists": ([(3, BEGUN_ONCE)], [], []),
     # Of 24 correct lists 8 come so.
     "none that pass": ([(8, f"{TIED} b a")], [], [
-        "  an insert arrived at a place where an element stood that the insert's author had not seen: this came just before the wrong list in all 8, and just before 33 % of the correct lists",
-        "  a change arrived that was concurrent with one of the receiver's own: this came just before the wrong list in all 8, and just before 33 % of the correct lists",
+        "  an insert arrived at a place where an element stood that the insert's author had not seen: this came just before the wrong list in all 8, and just before 33 % of the correct lists of all sessions",
+        "  a change arrived that was concurrent with one of the receiver's own: this came just before the wrong list in all 8, and just before 33 % of the correct lists of all sessions",
         "  Up to where they fail, 8 of the 8 have no deletes: so the bug does not need these."]),
     "too few": ([(2, BEGUN_TWICE)], [(10, RIGHT_ONCE)], []),
     "nothing stands out": ([(3, BEGUN_TWICE)], [(9, RIGHT_TWICE)], []),
@@ -800,15 +800,15 @@ def unequal(tally: Tally, program: str, folder: str) -> None:
     (case,) = xml.parse(junit_file).getroot().iter("testcase")
     told = case.find("system-out").text.splitlines()
     tally.check("unequal: JUnit's output", [node.tag for node in case] == ["system-out"] and len(told) == 3
-                and told[0] == "warning: the last lists that replicas 0 and 1 show differ", told)
+                and told[0] == "warning: the last lists of replicas 0 and 1 differ", told)
     got = judge(program, ["--unequal", "--failing", "--junit", junit_file, one, f"{folder}/fine.trace"])
     lines = got.out.decode().splitlines()
     tally.check("unequal: it fails where that is asked for", got.status == 1 and [cells(line)[:2] for line in lines[1:2]] == [(one, "accepted, unequal")]
                 and lines[2:] == ["2 traces: 2 accepted", "1 of those accepted is unequal: replicas end with different lists, or an insert or a "
                                   "delete never arrived (counted as failures)"], got)
     faults = [(fault.tag, fault.get("type"), fault.get("message")) for case in xml.parse(junit_file).getroot().iter("testcase") for fault in case]
-    tally.check("unequal: JUnit's failure", faults == [("failure", "unequal", "accepted, but unequal in the end: the last lists that replicas 0 and 1 "
-                                                        "show differ")], faults)
+    tally.check("unequal: JUnit's failure", faults == [("failure", "unequal", "accepted, but unequal in the end: the last lists of replicas 0 and 1 "
+                                                        "differ")], faults)
     got = judge(program, ["--unequal", f"{folder}/fine.trace"])
     tally.check("unequal: all are equal", got.status == 0, got)
     silent = Path(folder, "silent.trace")
@@ -1005,7 +1005,7 @@ def expected_warnings(text: str) -> dict:
     acting = {replica for replica, _ in operations}
     unheard = {(r, q) for r in acting for q in {author for author, _ in changes} if r != q and not any(author == q for author, _ in has[r])}
     lacked = {(r, f) for r in acting for f in changes if f[0] != r and f not in has[r] and (r, f[0]) not in unheard}
-    differ = len(set(map(frozenset, shown.values()))) > 1
+    differ = len({frozenset(names) for r, names in shown.items() if not news[r]}) > 1
     deletes, past = [], []
     for number, line in enumerate(text.splitlines()[2:], 3):
         words = line.split()
@@ -1045,7 +1045,7 @@ def warnings_of_sessions(tally: Tally, program: str, folder: str) -> None:
         found = {kind: [match for match in map(words.match, said) if match] for kind, words in WARNINGS.items()}
         got = {kind: [int(match[1]) if match[1] else "" for match in found[kind]] for kind in ("nothing", "idle", "deleted", "past", "more")}
         got["unheard"] = {(int(match[1]), int(q)) for match in found["unheard"] for q in re.findall(r"\d+", match[2])}
-        got["ends"] = ["different" if match[1].startswith("in the end") else "lacking" for match in found["ends"]]
+        got["ends"] = ["different" if match[1].startswith("the last lists") else "lacking" for match in found["ends"]]
         got["unshown"] = {int(match[1]) for match in found["unshown"]}
         lacked = [(int(r), changes) for match in found["ends"] for changes, where in LACKED.findall(match.string) for r in re.findall(r"\d+", where)]
         named = {(r, (int(author), int(n))) for r, changes in lacked for author, n, _ in NAMED.findall(changes)}
@@ -1569,7 +1569,7 @@ def odd_names(tally: Tally, program: str, folder: str) -> None:
         page = f"{folder}/page.html"
         got = subprocess.run([str(ROOT / "tools" / "explain"), "--program", program, "--html", page, "--small", f"{folder}/{name}.small",
                               f"{folder}/{name}"], capture_output=True)
-        tally.check(f"odd names: {shown} explained", got.returncode == 1 and f"{folder}/{shown}.small has the same verdict".encode() in got.stdout
+        tally.check(f"odd names: {shown} explained", got.returncode == 1 and f"{folder}/{shown}.small (".encode() in got.stdout
                     and not re.search(rb"^::", got.stdout, re.MULTILINE) and b"\x1b" not in got.stdout, got)
         tally.check(f"odd names: {shown} on the page", shown in Path(page).read_text(), shown)
         missing = subprocess.run([str(ROOT / "tools" / "explain"), "--program", program, f"{folder}/no{name}"], capture_output=True, text=True)
@@ -2036,7 +2036,7 @@ def script_of_ci(tally: Tally, program: str, folder: str) -> None:
     write(str(place), {"apart/a.trace": "0 ins a 0 : a|1 ins b 0 : b"})
     done = in_ci(str(place), path, f"{script} apart --unequal", {"GITHUB_ACTIONS": "true"})
     tally.check("script of CI: unequal, where that fails", done.returncode == 1 and done.stdout.startswith(
-        "::error file=apart/a.trace,title=apart/a.trace%3A accepted::accepted, but unequal in the end: the last lists that replicas 0 and 1 show differ\n"), done)
+        "::error file=apart/a.trace,title=apart/a.trace%3A accepted::accepted, but unequal in the end: the last lists of replicas 0 and 1 differ\n"), done)
     write(str(place), {"odd/a.trace": "0 inz a 0 : a", "odd/b.trace": "0 ins a 0 : a|0 read :"})
     done = in_ci(str(place), path, f"{script} odd", {})
     tally.check("script of CI: the first that has a verdict is explained whole", done.returncode == 2 and done.stdout.count("\nWhere to look\n") == 1 and
@@ -2177,7 +2177,7 @@ def weak(tally: Tally, program: str, folder: str) -> None:
     tally.check("weak: the counts", lines[6:] == ["5 traces: 1 accepted, 2 weak alone, 1 refused, 1 contents",
                                                   UNEQUAL.format("with --unequal these count as failures")], lines[6:])
     tally.check("weak: status 1, and warnings", got.status == 1 and got.err.decode().startswith(
-        f"domepeeler-judge-many: {folder}/unequal.trace: warning: the last lists that replicas 0, 1 and 2 show differ"), got)
+        f"domepeeler-judge-many: {folder}/unequal.trace: warning: the last lists of replicas 0, 1 and 2 differ"), got)
     usual = judge(program, [folder])
     told = usual.out.decode()
     tally.check("weak: not asked for", usual.status == 1 and "weak" not in told and not usual.err and told.endswith(
@@ -2223,7 +2223,7 @@ def weak_junit(tally: Tally, program: str, folder: str) -> None:
         first, = cases["unequal.trace"]
         begins = "weak holds, strong doesn't: this passes" if not more else "weak holds, strong doesn't, but unequal in the end: in the end"
         tally.check(f"weak: JUnit's unequal case {more}", first.tag == ("failure" if more else "system-out") and first.text.startswith(begins)
-                    and "the last lists that replicas 0, 1 and 2 show differ" in first.text, first.text)
+                    and "the last lists of replicas 0, 1 and 2 differ" in first.text, first.text)
         first, = cases["opposite.trace"]
         tally.check(f"weak: JUnit's failed case {more}", first.tag == "failure" and first.get("message").startswith("refused 2: ") and
                     "Up to line 13 the weak specification holds; with line 14 the verdict is `refused 2`" in first.text, first.text)
@@ -2254,7 +2254,7 @@ def weak_in_ci(tally: Tally, program: str, folder: str) -> None:
                     "2 failed: judged/junit.xml has them all, and judged/1.html is the page of the first\n"), done.stdout)
     done = in_ci(project, path, f"{script} --unequal", github)
     tally.check("weak: an unequal one in GitHub", "::error file=recordings/unequal.trace,title=recordings/unequal.trace%3A weak holds%2C strong "
-                "doesn't::weak holds, strong doesn't, but unequal in the end: the last lists that replicas 0, 1 and 2" in done.stdout, done.stdout)
+                "doesn't::weak holds, strong doesn't, but unequal in the end: the last lists of replicas 0, 1 and 2" in done.stdout, done.stdout)
     for name in "lost", "opposite", "unequal":
         os.remove(f"{project}/recordings/{name}.trace")
     done = in_ci(project, path, script, github)

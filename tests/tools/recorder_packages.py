@@ -893,7 +893,7 @@ FAILS_WEAK = {"strong": "refused 3: ", "opposite": "refused 2: ", "lost": "conte
 ALONE = "weak holds, strong doesn't: this passes"
 
 # What an accepted recording of one replica's insert and another's read may hide.
-UNSURE = ["the last lists that replicas 0 and 1 show differ",
+UNSURE = ["the last lists of replicas 0 and 1 differ",
           "replica 1 never hears of replica 0: no receipt brings it an insert or a delete from there, so nothing shows how it applies "
           "these. At the end of a session let everyone receive everything, and then read the list"]
 NOTHING = "nothing was recorded: the trace has no entry, so the verdict says nothing about your editor"
@@ -1700,7 +1700,7 @@ def check_weak_of_pytest(tally: Tally, place: Place, command: list) -> None:
     own = said.get("test_fails_by_itself", "")
     tally.check("pytest: weak, a test that fails by itself", own.find("assert 9 == 10") in range(own.find(ALONE)), own)
     tally.check("pytest: weak, warnings", "test_passes_unsure" in done.stdout and done.stdout.count("Unsure: ") == 3 and
-                "Unsure: the last lists that replicas 0, 1 and 2 show differ: 0.2 (line 8, " in done.stdout, done.stdout)
+                "Unsure: the last lists of replicas 0, 1 and 2 differ: 0.2 (line 8, " in done.stdout, done.stdout)
     done = place.run([*command, "-k", "fails_by_itself"], "python", DOMEPEELER_EXPLAIN="nowhere")
     tally.check("pytest: weak, without an explainer", "The recording is refused, and weak holds. There is no explanation: nowhere cannot" in
                 done.stdout, done.stdout)
@@ -1921,7 +1921,7 @@ def check_weak_of_node(tally: Tally, place: Place) -> None:
         tally.check(f"node --test: weak, {name}", re.search(rf"error: [^\n]*\n *{begins}", told) and "The trace is saved: " in told, told)
     tally.check("node --test: weak, a test that fails by itself", f"# fails by itself: {ALONE}" in done.stdout and
                 "nine is not ten" in done.stdout, done.stdout)
-    tally.check("node --test: weak, warnings", "# passes unsure: the last lists that replicas 0, 1 and 2 show differ: 0.2 (line 8, " in
+    tally.check("node --test: weak, warnings", "# passes unsure: the last lists of replicas 0, 1 and 2 differ: 0.2 (line 8, " in
                 done.stdout, done.stdout)
     done = place.run(words, "packed", DOMEPEELER_EXPLAIN="nowhere")
     tally.check("node --test: weak, without an explainer", "The recording is refused, and weak holds. There is no explanation: nowhere cannot" in

@@ -1576,7 +1576,6 @@ LOST_ONE = "Unless it was still on its way, it was lost or is held back"
 LOST_SOME = "Unless they were still on their way, they were lost or are held back"
 OF_NOTHING = ("line {0}, 0.{1}: replica 0 deleted `{2}`, which no line inserts, so nothing was there to delete: the name is wrong, or its insert "
               "was not recorded")
-NOT_READ = "the last lists that replicas 0 and 1 show differ, maybe only because replica 1 was not read at the end"
 PAST_END = "line {0}, 0.{1}: replica 0 inserted {2} at position {3}, past the end of a list of length {4}, so it counts as the end: is position {3} right?"
 
 # Calls of accepted recordings, and what the verdict on each may hide.
@@ -1586,29 +1585,29 @@ WARNED = [
      []),
     ("everything delivered", ["new 3", "insert 0 a 0 a", "insert 1 b 0 b", "delivered b a / b a / b a"], []),
     ("a change that is held back", ["new 2", "insert 0 a 0 a", "received 1 0 1", "insert 0 b 1 a b", "read 1 a"],
-     [f"the last lists that replicas 0 and 1 show differ: 0.2 (line 5) never arrived at replica 1 in this recording. {LOST_ONE}"]),
+     [f"the last lists of replicas 0 and 1 differ: 0.2 (line 5) never arrived at replica 1 in this recording. {LOST_ONE}"]),
     ("more of them than are told", ["new 2", "insert 0 a 0 a", "received 1 0 1", "insert 0 b 0 b a", "insert 0 c 0 c b a",
                                     "delete 0 c b a", "delete 0 b a", "read 1 a"],
      [f"in this recording 0.2 (line 5), 0.3 (line 6), 0.4 (line 7) and 1 more never arrived at replica 1. {LOST_SOME}"]),
     ("three replicas, two alike", ["new 3", "insert 1 a 0 a", "received 0 1 1", "received 2 1 1", "read 0 a", "insert 1 b 1 a b",
                                    "read 2 a"],
-     ["the last lists that replicas 0, 1 and 2 show are not all the same (those of 0 and 2 are): 1.2 (line 7) never arrived at replicas 0 and 2 in "
+     ["the last lists of replicas 0, 1 and 2 differ (0 and 2 show the same one): 1.2 (line 7) never arrived at replicas 0 and 2 in "
       f"this recording. {LOST_ONE}"]),
     ("one that both deleted", ["new 2", "insert 0 a 0 a", "received 1 0 1", "delete 0 a", "delete 1 a", "received 0 1 1", "read 0",
                                "read 1"],
      [f"in this recording 0.2 (line 5) never arrived at replica 1. {LOST_ONE}"]),
     ("a replica that hears of none", ["new 2", "insert 0 a 0 a", "received 1 0 1", "insert 1 b 1 a b", "read 0 a"],
-     ["the last lists that replicas 0 and 1 show differ", NEVER_HEARS.format(0, "replica 1")]),
+     ["the last lists of replicas 0 and 1 differ", NEVER_HEARS.format(0, "replica 1")]),
     ("replicas that it never hears of", ["new 3", "insert 0 a 0 a", "insert 1 b 0 b", "read 2", "received 0 1 1", "received 1 0 1",
                                          "read 0 b a", "read 1 b a"],
-     ["the last lists that replicas 0, 1 and 2 show are not all the same (those of 0 and 1 are)", NEVER_HEARS.format(2, "replicas 0 and 1")]),
+     ["the last lists of replicas 0, 1 and 2 differ (0 and 1 show the same one)", NEVER_HEARS.format(2, "replicas 0 and 1")]),
     ("no list at the end", ["new 2", "insert 0 a 0 a", "insert 1 b 0 b", "received 0 1 1", "read 0 b a", "received 1 0 1", "view 1 a"],
-     ["replica 1 shows no list but a view after its last receipt, of 0.1 (line 7): let each replica read at the end", NOT_READ]),
+     ["replica 1 shows no list but a view after its last receipt, of 0.1 (line 7): let each replica read at the end"]),
     ("a list, and then a view", ["new 2", "insert 0 a 0 a", "received 1 0 1", "read 1 a", "view 1 a"], []),
     ("a view between two receipts", ["new 2", "insert 0 a 0 a", "read 1", "received 1 0 1", "view 1 a", "insert 0 b 0 b a", "received 1 0 2"],
-     ["replica 1 shows no list after its last receipts, of 0.1 (line 5) and 0.2 (line 8): let each replica read at the end", NOT_READ]),
+     ["replica 1 shows no list after its last receipts, of 0.1 (line 5) and 0.2 (line 8): let each replica read at the end"]),
     ("nothing shown of what came last", ["new 2", "insert 0 a 0 a", "read 1", "received 1 0 1", "received 1 0 1"],
-     ["replica 1 shows no list after its last receipt, of 0.1 (line 5): let each replica read at the end", NOT_READ]),
+     ["replica 1 shows no list after its last receipt, of 0.1 (line 5): let each replica read at the end"]),
     ("nothing shown of several", ["new 2", "insert 0 a 0 a", "insert 0 b 0 b a", "insert 0 c 0 c b a", "insert 0 d 0 d c b a",
                                   "insert 0 e 0 e d c b a", "view 1", *(f"received 1 0 {n}" for n in range(1, 6))],
      ["replica 1 shows no list after its last receipts, of 0.1 (line 9), 0.2 (line 10), 0.3 (line 11) and 2 more: let each "
@@ -1797,7 +1796,7 @@ def check_explains_file(tally: Tally, recorder: Recorder, folder: Path) -> None:
     told = subprocess.run([EXPLAIN, trace], capture_output=True, text=True, env=recorder.surroundings)
     said = [line[2:] for line in got[len(lost) + 1:-1]]
     tally.check(f"{recorder.language}: explains a file of a session that ends with delivered", told.returncode == 1 and
-                said == told.stdout.splitlines() and "never reached replica 1. Only the receipts that the call `delivered` wrote (line 5) say that 0.1 arrived; no response of replica 1 shows it." in told.stdout and
+                said == told.stdout.splitlines() and "never reached replica 1. Only what the call `delivered` wrote (line 5) says that 0.1 arrived; no response of replica 1 shows it." in told.stdout and
                 "arrived at replica 1 in line 5 (1 recv 0 1, written by the call `delivered`)" in told.stdout, (said, told))
 
 
@@ -1808,7 +1807,7 @@ def check_judge(tally: Tally, recorder: Recorder, folder: Path) -> None:
     report = json.loads(got[len("report "):]) if got.startswith("report {") else got
     warned = report.pop("warnings", [])  # as weak holds
     tally.check(f"{recorder.language}: judge", report == CYCLE_REPORT and len(warned) == 3 and warned[0].startswith(
-        "the last lists that replicas 0, 1 and 2 show differ: 0.2 (line 8"), got)
+        "the last lists of replicas 0, 1 and 2 differ: 0.2 (line 8"), got)
     got = recorder.answers(["new\t1", "judge"])[-1]
     wanted = {"inserts": 0, "operations": 0, "order": [], "replicas": 1, "strong": True, "verdict": "accepted", "weak": True,
               "warnings": [NOTHING]}
@@ -2482,8 +2481,8 @@ def check_no_verdict(tally: Tally, recorder: Recorder, folder: Path) -> None:
 CYCLE_CALLS = [line.split(" -> ")[0] for line in CYCLE.split("\n")[:-1]]
 WEAK = [("strong doesn't hold", [*CYCLE_CALLS, "delivered b a / b a / b a"], "passes"),
         ("all holds", ["new 2", "insert 0 a 0 a", "delivered a / a"], "passes"),
-        ("strong doesn't hold, and a delete never arrived", CYCLE_CALLS, "fails the last lists that replicas 0, 1 and 2 show differ: 0.2 (line 8"),
-        ("all holds, and an insert never arrived", ["new 2", "insert 0 a 0 a", "read 1"], "fails the last lists that replicas 0 and 1 show differ"),
+        ("strong doesn't hold, and a delete never arrived", CYCLE_CALLS, "fails the last lists of replicas 0, 1 and 2 differ: 0.2 (line 8"),
+        ("all holds, and an insert never arrived", ["new 2", "insert 0 a 0 a", "read 1"], "fails the last lists of replicas 0 and 1 differ"),
         ("nothing is recorded", ["new 1"], f"fails {NOTHING}"),
         ("opposite orders", ["new 2", "insert 0 a 0 a", "insert 1 b 0 b", "delivered a b / b a"], "fails refused 2"),
         ("a lost element", ["new 2", "insert 0 a 0 a", "delivered a / (empty)"], "fails contents 1.1"),
@@ -2512,7 +2511,7 @@ def check_weak(tally: Tally, recorder: Recorder) -> None:
 # By name: calls of a session in C, and what domepeeler_passes() answers.
 PASSES = [("all holds", ["new 2", "insert 0 a 0 a", "delivered a / a"], "passes"),
           ("strong doesn't hold", WEAK[0][1], "fails refused 3"),
-          ("an insert never arrived", WEAK[3][1], "fails the last lists that replicas 0 and 1 show differ"),
+          ("an insert never arrived", WEAK[3][1], "fails the last lists of replicas 0 and 1 differ"),
           ("nothing is recorded", ["new 1"], f"fails {NOTHING}"),
           ("a lost element", ["new 2", "insert 0 a 0 a", "delivered a / (empty)"], "fails contents 1.1"),
           ("a call was refused", ["new 1", "insert 0 a 0 a", "read 7"], "fails a call was refused, so what it says is not recorded: no replica 7")]
@@ -2697,7 +2696,7 @@ def check_weak_heads(tally: Tally, program: str, folder: Path) -> None:
                 **os.environ, "DOMEPEELER": program, "DOMEPEELER_EXPLAIN": EXPLAIN, "LC_ALL": "C.UTF-8", "PYTHONPATH": str(ROOT / "recorders")})
             said = done.stdout + done.stderr
             told = not said and done.returncode == 0 if is_passing else done.returncode and any(words in said for words in (
-                "the last lists that replicas 0, 1 and 2 show differ", "weak holds, strong doesn't, with three warnings"))
+                "the last lists of replicas 0, 1 and 2 differ", "weak holds, strong doesn't, with three warnings"))
             tally.check(f"{name}: what its head says of weak, {'passing' if is_passing else 'with a warning'}", told, done)
 
 
@@ -2851,7 +2850,7 @@ def check_rust_tests(tally: Tally, program: str, folder: Path) -> None:
                 f"\nIn your code\n  line 3: editor.rs:9\n  line 4: editor.rs:10\n  line 5: editor.rs:{line['reads']}\n" in done.stdout and
                 f"\nThe trace is saved: failed_traces/{saved.name}\n" in done.stdout, done)
     tally.check("Rust tests: nothing recorded", NOTHING in done.stdout, done)
-    warning = ("the last lists that replicas 0 and 1 show differ: 0.2 (line 6, editor.rs:{}) never arrived at replica 1 in this recording. "
+    warning = ("the last lists of replicas 0 and 1 differ: 0.2 (line 6, editor.rs:{}) never arrived at replica 1 in this recording. "
                "{}").format(next(number for number, text in enumerate(RUST_TESTS.splitlines(), 1) if "// hidden" in text), LOST_ONE)
     unsure = saved.with_name("editor-an_insert_never_arrives.trace")
     tally.check("Rust tests: warnings of an accepted recording fail", f":\n{warning}\n\naccepted, with a warning: " in done.stdout and
@@ -2906,8 +2905,7 @@ fn main() {{
     subprocess.run(["rustc", "--edition", "2021", "-o", "placed", place / "placed.rs"], cwd=place, check=True)
     done = subprocess.run([place / "placed"], cwd=folder, env=surroundings, capture_output=True, text=True)
     tally.check("Rust: places with signs that JSON escapes", json.loads(done.stdout)["warnings"] == [
-        'replica 1 shows no list after its last receipt, of 0.1 (line 5, a "user\'s" \\tests/placed.rs:7): let each replica read at the end',
-        NOT_READ], done)
+        'replica 1 shows no list after its last receipt, of 0.1 (line 5, a "user\'s" \\tests/placed.rs:7): let each replica read at the end'], done)
 
 
 # Tests in Rust that fail by themselves where the variable says so.
@@ -3059,7 +3057,7 @@ def check_own_panics(tally: Tally, program: str, folder: Path) -> None:
     told = [f"The trace is saved: failed_traces/{name}.trace" for name in [*wanted, *["own-of_three_cases"] * 2] if name != "own-in_the_second"]
     verdicts = ["accepted"] * 2 + ["not accepted: contents 0.1"] * 10 + ["not accepted: contents 0.2", "accepted, and may hide something:"]
     told += [f"The recording is {verdict}" for verdict in verdicts] + [f"The recording was not judged: {ONE_LOG}"]
-    told += [f"  the last lists that replicas 0 and 1 show differ: 0.2 (line 6, own.rs:{line['never arrives']}) never arrived at replica 1 in this "
+    told += [f"  the last lists of replicas 0 and 1 differ: 0.2 (line 6, own.rs:{line['never arrives']}) never arrived at replica 1 in this "
              f"recording. {LOST_ONE}"]
     tally.check("Rust: their verdicts and paths are told", sorted(done.stderr.splitlines()) == sorted(told) and
                 "The trace is saved: failed_traces/own-in_the_second.trace" in done.stdout, done)
@@ -3529,7 +3527,7 @@ def check_stop_cpp(tally: Tally, program: str, folder: Path) -> None:
     line = next(number for number, text in enumerate(STOP_CPP.splitlines(), 1) if "// answers wrong" in text)
     tally.check("C++: a call-back that throws", done.returncode == 0 and done.stdout.startswith("1 5 contents 1.1: ") and
                 f"  line 5: stop.cpp:{line}\n\nThe list specifications\n  strong and weak fail\n2 5 again\n" in done.stdout, done)
-    tally.check("C++: no call-back", re.search(r"\n2 5 again\ncontents 1\.1: [^\n]*\nstopped\nthe last lists that replicas 0 and 1 show differ\n$", done.stdout), done)
+    tally.check("C++: no call-back", re.search(r"\n2 5 again\ncontents 1\.1: [^\n]*\nstopped\nthe last lists of replicas 0 and 1 differ\n$", done.stdout), done)
 
 
 # Four threads that share a recording, and one that judges it meanwhile.

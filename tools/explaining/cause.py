@@ -20,7 +20,7 @@ NEVER_SENT = ("Look first at whether replica {author} has sent {changes} at all:
 OTHERS_HAVE = "all other changes of replica {author} have one"
 ELSEWHERE_ONE = {True: "at another replica it has one", False: "at other replicas they have some"}
 PUT_AT_ONCE = {True: " {others} was inserted at the same place as {element} concurrently: check also that every replica puts the same one first.",
-               False: " Check also the order of {pairs}: these were inserted at one place concurrently, so every replica must put the same one first."}
+               False: " Check also these pairs, which were inserted at one place concurrently: {pairs}. Of each pair every replica must put the same one first."}
 OWN_ADJUSTED = ("how the replica's own changes that are still on their way are adjusted for an arriving change, and how that is adjusted for them (each for the unadjusted form of the other). If "
                 "the editor takes its own changes back and applies them again, look at how it does that.")
 EMPTIED = ("Before that, in line {line}, replica {replica} received {change}, which deletes {element}. Replica {replica} had deleted {element} itself, by {other}, so {change} had nothing left to "
@@ -93,8 +93,8 @@ def is_deleted(evidence: Evidence, name: str) -> bool:
 
 
 def at_once(element: str, others: list) -> str:
-    pairs = [f"{element} and {others[0]}", *(f"that of {element} and {other}" for other in others[1:])]
-    return PUT_AT_ONCE[len(others) == 1].format(element=element, others=listed(others, MOST_TOLD), pairs=listed(pairs, MOST_TOLD))
+    pairs = [f"{element} and {other}" for other in others[:MOST_TOLD]] + ([f"{len(others) - MOST_TOLD} more"] if others[MOST_TOLD:] else [])
+    return PUT_AT_ONCE[len(others) == 1].format(element=element, others=listed(others, MOST_TOLD), pairs="; ".join(pairs))
 
 
 def named(changes: list) -> str:

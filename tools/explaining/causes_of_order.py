@@ -131,8 +131,8 @@ TURNED_BY_ITSELF = ("Replica {replica} shows {two} before {one} in {before}, and
                     "recorded did that: ")
 MOVED_INSERT = ("If the editor sends positions, the position of {element} was perhaps not adjusted for {changes}, which replica {replica} "
                 "knew and the author of {element} did not.{back}")
-MOVED_BACK = {True: " Or that delete was itself not adjusted for {inserts}.",
-              False: " Or one of these deletes was itself not adjusted for an insert ({inserts})."}
+MOVED_BACK = {True: " Or that delete went wrong before: its author had not seen {inserts}, for which it must be adjusted.",
+              False: " Or one of these deletes went wrong before: its author had not seen {inserts}, for which it must be adjusted."}
 
 
 def of_position(evidence: Evidence) -> list:

@@ -116,7 +116,7 @@ def hidden(trace: bytes) -> tuple:
     of_nothing = [told for name, told in deletes if name not in inserted]
     others = [*some(of_nothing, "delete", "of elements that no line inserts"), *some(past_end, "insert", "past the end of a list")]
     late, strangers, silent = received_last(replicas), unheard(replicas), without_operation(replicas)
-    ends = [*unshown(replicas, late), *different(replicas, {} if strangers else late), *strangers]
+    ends = [*unshown(replicas, late), *different(replicas, late), *strangers]
     if any(one.changes for one in replicas):  # of which a silent replica shows nothing
         return [*ends, *silent], others
     return ends, [*silent, *others]
@@ -134,10 +134,10 @@ def some(told: list, what: str, which: str) -> list:
 
 def different(replicas: list, late: dict) -> list:
     """Whether the last lists that replicas showed differ as sets, and which changes never arrived at which replica. Of an author of
-    which a replica never hears that is said by itself. Where all that are not late show one list, that may be why."""
+    which a replica never hears that is said by itself. A late one's list is an older one, which is said by itself too."""
     lists = {}
     for replica, one in enumerate(replicas):
-        if one.shown is not None:
+        if one.shown is not None and replica not in late:
             lists.setdefault(frozenset(one.shown.split()), []).append(replica)
     lacking = [(replica, *lacked(replicas, replica)) for replica, one in enumerate(replicas) if one.pasts]
     alike = {}
@@ -150,17 +150,9 @@ def different(replicas: list, late: dict) -> list:
     if len(lists) < 2:
         return [f"in this recording {lacking_told}. {lost}"] if never else []
     among = joined(sorted(replica for same in lists.values() for replica in same))
-    same = [f"those of {joined(one)} are" for one in lists.values() if len(one) > 1]
-    told = f"the last lists that replicas {among} show " + (f"are not all the same ({'; '.join(same)})" if same else "differ")
-    return [f"{told}: {lacking_told} in this recording. {lost}" if never else told + only_late(lists.values(), late)]
-
-
-def only_late(groups: list, late: dict) -> str:
-    unread = sorted(replica for same in groups for replica in same if replica in late)
-    if sum(not late.keys() >= set(same) for same in groups) > 1:
-        return ""
-    which = f"replica {unread[0]} was" if len(unread) == 1 else f"replicas {joined(unread)} were"
-    return f", maybe only because {which} not read at the end"
+    same = [f"{joined(one)} show the same one" for one in lists.values() if len(one) > 1]
+    told = f"the last lists of replicas {among} differ" + (f" ({'; '.join(same)})" if same else "")
+    return [f"{told}: {lacking_told} in this recording. {lost}" if never else told]
 
 
 def lacked(replicas: list, replica: int) -> tuple:

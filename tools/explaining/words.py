@@ -51,7 +51,8 @@ def explanation(evidence: Evidence, told: Evidence, language: str = debuggers.US
     is_alike = verdict_of(evidence.report) == verdict_of(told.report)  # then more responses would tell nothing new
     if whole:
         more = "the same verdict" if is_alike else f"another verdict, {verdict_of(evidence.report)}, which is explained below"
-        headline += f" This fault comes first, in lines 1 to {told.last_line}: start with it. The whole trace has {more}." if not passes else (
+        first = f"Lines 1 to {told.last_line} are enough to show it." if is_alike else f"This fault comes first, in lines 1 to {told.last_line}: start with it."
+        headline += f" {first} The whole trace has {more}." if not passes else (
             f" Strong holds up to line {told.last_line - 1}; all below is about lines 1 to {told.last_line}{'' if is_alike else f'; the whole trace is {verdict_of(evidence.report)}'}.")
     if passes:
         headline = f"{WEAK_ALONE}: this passes, since only the weak list specification is asked for. Nothing needs mending. Why the strong one fails: {headline}"
@@ -350,7 +351,9 @@ def brought(evidence: Evidence, operation: Operation) -> list:
     kept = [change for change in came if change.element not in gone]
     told = [did_there(evidence, change, operation.replica) for change in kept[:MOST_ARRIVED]]
     more = f" and {len(kept) - MOST_ARRIVED} more" if len(kept) > MOST_ARRIVED else ""
-    return [f"{'these receipts stand' if receipts[1:] else 'this receipt stands'} for: {', '.join(told)}{more}"] if told else []
+    named = {receipt.seen for receipt in receipts}
+    why = "that brought" if all(change in named for change in kept) else "a receipt counts for all that the operation's author had by then, so that brought"
+    return [f"{why}: {', '.join(told)}{more}"] if told else []
 
 
 def did_there(evidence: Evidence, change: Operation, replica: int) -> str:
@@ -447,8 +450,8 @@ def not_arrived(recording: Recording, seen: Operation, operation: Operation) -> 
     late = recording.arrival(seen, operation.replica)
     if late is None:
         return f", and replica {operation.replica} has no receipt of it"
-    together = "" if late.seen is seen else f" together with {late.seen.name}"
-    return f". Replica {operation.replica} got {seen.name} only after this response,{together} in line {late.line} ({late.text})"
+    too = "" if late.seen is seen else f". That receipt counts for {seen.name} too, since the author of {late.seen.name} had it"
+    return f". Replica {operation.replica} got {seen.name} only after this response, in line {late.line} ({late.text}){too}"
 
 
 def position(evidence: Evidence) -> tuple:
