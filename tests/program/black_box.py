@@ -566,6 +566,22 @@ def long_texts(tally: Tally, program: str) -> None:
     tally.same("10 MB of LF", run(program, trace=front + b"\n" * 10_000_000), fault("line 3: shape"))
 
 
+def largest_response(tally: Tally, program: str, folder: str) -> None:
+    """A response of as many names as one may have, each as long as it may be, in every command: the order is that of the response."""
+    names = [[f"{replica:_<28x}{i:04x}" for i in range(256)] for replica in range(16)]
+    lines = [f"{r} ins {name} {i} : {' '.join(names[r][:i + 1])}" for r in range(16) for i, name in enumerate(names[r])]
+    shown = " ".join(name for of_replica in names for name in of_replica)
+    trace, certificate = Path(folder, "largest.trace"), Path(folder, "largest.cert")
+    trace.write_text("\n".join(["trace 1", "replicas 16", *lines, *(f"0 recv {r} 256" for r in range(1, 16)), f"0 read : {shown}", ""]))
+    wanted = Ended(0, f"replicas 16 operations 4097 inserts 4096\naccepted\nstrong yes\nweak yes\norder : {shown}\n".encode(), b"")
+    for command in "verdict", "live":
+        tally.same(f"the largest response: {command}", run(program, [command, str(trace)]), wanted)
+    made = run(program, ["cert", str(trace)])
+    certificate.write_bytes(made.out)
+    tally.check("the largest response: cert", made.status == 0 and made.out.endswith(f" {shown}\n".encode()), made.out[:100])
+    tally.same("the largest response: verify", run(program, ["verify", str(trace), str(certificate)]), Ended(0, b"yes accepted\n", b""))
+
+
 def main() -> None:
     program = program_of(sys.argv)
     tally = Tally()
@@ -584,6 +600,7 @@ def main() -> None:
     with tempfile.TemporaryDirectory() as folder:
         files(tally, program, folder)
         long_report(tally, program, folder)
+        largest_response(tally, program, folder)
         threads(tally, program, folder)
     closed_input(tally, program)
     outputs(tally, program)
