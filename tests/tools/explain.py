@@ -142,8 +142,8 @@ WORDS = [
     ("an insert that stands too far behind, though its name has the greater number", 1, "0 ins e1-0 0 : e1-0|0 ins e2-0 1 : e1-0 e2-0|0 del e1-0 : e2-0|0 ins e4-0 0 : e2-0 e4-0",
      "asked for: position 0; the answer has [e2-0] there|found at: position 1||Where to look|"
      "Look at how the position that a user sees is mapped to a place in the editor's own list (deleted elements may still stand there); and "
-     "at whether the recorder writes the position that was asked for.|If the list is sorted by position identifiers, print those of e4-0 and e2-0 at line 6. If they do not "
-     "rise in this order, look at how the identifier of e4-0 was made; if they do, at how identifiers are compared (numbers must not be compared as text)." + stop(6, "replica 0 inserts e4-0")),
+     "at whether the recorder writes the position that was asked for.|If the list is sorted by position identifiers, print those of e4-0 and e2-0 at line 6. They must rise in this order. If "
+     "they do not, look at how the identifier of e4-0 was made; if they do, at how identifiers are compared (numbers must not be compared as text)." + stop(6, "replica 0 inserts e4-0")),
     ("an insert that had seen the other", 2, "0 ins a 0 : a|1 recv 0 1|1 ins b 1 : a b|0 recv 1 1|0 read : b a",
      "refused 2: two responses can't be right together.|"
      "[a] before [b]: line 5 of the trace, 1.1: replica 1 inserted b at position 1, answered [a] [b]|"
@@ -235,7 +235,7 @@ WORDS = [
      "Look at positions beside deleted elements: any two of 2.1, 0.3 and 1.1 fit together, but not all three; perhaps an insert lost its place "
      "because its neighbour was deleted meanwhile. Look first at where replica 0 placed b in line 10: it belongs beside x, which had been deleted there.|"
      "For the verdict on the whole trace: look at where a replica places an incoming insert beside a deleted element: [a] was put before [x] (1.1, line 6), and [b] behind it (2.1, line 7), so [x] settles their order, also where it is deleted; yet 0.3 (line 11) shows them the other way round. The rule for concurrent inserts must not decide this.|For the verdict on the whole trace: if the list is sorted by position identifiers, look at those of a and b: are the two equal, does one differ between replicas, are numbers compared as text, or is one of them not between the identifiers of its neighbours?|For the verdict on the whole trace: if the editor sends positions, the position of b was perhaps not adjusted for the delete of x by 0.2 (line 8), which replica 1 "
-     "knew and the author of b did not; Or that delete went wrong before: its author had not seen the insert of a by 1.1 (line 6), for which it must be adjusted.|"
+     "knew and the author of b did not. Or that delete went wrong before: its author had not seen the insert of a by 1.1 (line 6), for which it must be adjusted.|"
      "" + stop(10, "replica 0 applies 2.1", 9, 5, 4, together=9) + "||What the whole trace shows: a circle, which no order allows|"
      "[a] before [b]: line 14, 1.2: replica 1 read the list, answered [a] [b]|"
      "[b] before [a]: line 11, 0.3: replica 0 read the list, answered [b] [a]"),
@@ -358,7 +358,7 @@ WORDS = [
      "Where to look|"
      "If the editor decides by numbers (a clock, ids) which of two inserts at one place comes first, look at theirs: c stands behind b, which replica 1 had "
      "already. To stand before, c needs a number greater than that of b; perhaps its number is not greater. Usual causes: the clock does not advance when changes arrive, or when one that was held back is applied; "
-     'the replica\'s number is compared before the clock; ids are compared as text, so 10 comes before 9.|If the list is sorted by position identifiers, print those of c and b at line 6. If they do not rise in this order, look '
+     'the replica\'s number is compared before the clock; ids are compared as text, so 10 comes before 9.|If the list is sorted by position identifiers, print those of c and b at line 6. They must rise in this order. If they do not, look '
      'at how the identifier of c was made; if they do, at how identifiers are compared (numbers must not be compared as text).|If neither fits your editor: look at how the position that a user sees is mapped to a place '
      "in the editor's own list; and at whether the recorder writes the position that was asked for." + stop(6, "replica 1 inserts c")),
     ("a position before the one that was asked for, beside a deleted element", 1, "0 ins a 0 : a|0 ins b 1 : a b|0 del a : b|0 ins c 1 : c b",
