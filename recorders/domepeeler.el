@@ -1009,7 +1009,7 @@ A letter stands first, as `2-0' would look like an operation's name."
   "Whether the last lists that replicas showed differ as sets.
 And which changes never arrived at which replica.  The lists of
 those in LATE are older ones, which is said by itself too."
-  (let (lists alike (count 0))
+  (let (lists alike lacking (count 0))
     (cl-loop for entries across (domepeeler--warned-entries warned)
              for replica from 0
              for shown = (domepeeler--entries-shown entries)
@@ -1019,6 +1019,7 @@ those in LATE are older ones, which is said by itself too."
       (let ((changes (domepeeler--lacked recording warned replica)))
         (setq count (max count (length changes)))
         (when changes
+          (push replica lacking)
           (push replica (alist-get (domepeeler--listed changes) alike nil nil #'equal)))))
     (let* ((never (mapconcat (lambda (pair)
                                (format "%s never arrived at replica%s %s" (car pair) (if (cddr pair) "s" "")
@@ -1034,6 +1035,7 @@ those in LATE are older ones, which is said by itself too."
        ((and (< (length groups) 2) (= count 0)) nil)
        ((< (length groups) 2) (list (format "in this recording %s. %s" never lost)))
        ((= count 0) (list told))
+       ((cl-set-difference lacking (apply #'append groups)) (list told (format "in this recording %s. %s" never lost)))
        (t (list (format "%s: %s in this recording. %s" told never lost)))))))
 
 (defun domepeeler--lacked (recording warned replica)

@@ -1378,8 +1378,8 @@ static inline int domepeeler_lack_alike(const struct domepeeler_event *one, cons
     return 1;
 }
 
-/* Says what never arrived at which replicas. Answers how many changes that are, where it is one, and else more. */
-static inline size_t domepeeler_say_lacked(const struct domepeeler_warned *w, struct domepeeler_words *never) {
+/* Says what never arrived at which replicas, and which these are. Answers how many changes that are, where it is one, and else more. */
+static inline size_t domepeeler_say_lacked(const struct domepeeler_warned *w, struct domepeeler_words *never, int *lacks) {
     struct domepeeler_event first[DOMEPEELER_REPLICAS][DOMEPEELER_CHANGES];
     size_t counts[DOMEPEELER_REPLICAS], told = 0, all = 0;
     int like[DOMEPEELER_REPLICAS], alike[DOMEPEELER_REPLICAS]; /* of each the first one that lacks the same; of this, how many do */
@@ -1391,6 +1391,7 @@ static inline size_t domepeeler_say_lacked(const struct domepeeler_warned *w, st
         alike[i] = 0;
         alike[like[i]]++;
         all += like[i] == i ? counts[i] : 0;
+        lacks[i] = counts[i] > 0;
     }
     for (int i = 0; i < w->d->replicas; i++) {
         size_t said = 0;
@@ -1462,9 +1463,9 @@ static inline size_t domepeeler_unheard(const struct domepeeler_warned *w, int r
 /* Whether the last lists that replicas showed differ as sets, and which changes never arrived at which replica. */
 static inline void domepeeler_say_different(const struct domepeeler_warned *w) {
     struct domepeeler_words never = {NULL, 0, 0, 0}, none = {NULL, 0, 0, 0};
-    size_t count = domepeeler_say_lacked(w, &never), groups = 0, told = 0;
+    int like[DOMEPEELER_REPLICAS], lacks[DOMEPEELER_REPLICAS], is_apart = 0;
+    size_t count = domepeeler_say_lacked(w, &never, lacks), groups = 0, told = 0;
     const char *lost = count == 1 ? "Unless it was still on its way, it was lost or is held back" : "Unless they were still on their way, they were lost or are held back";
-    int like[DOMEPEELER_REPLICAS];
     w->said->is_short |= never.is_short;
     if (domepeeler_alike(w, like) > 1) {
         domepeeler_say(w->said, "the last lists of replicas ");
@@ -1477,7 +1478,8 @@ static inline void domepeeler_say_different(const struct domepeeler_warned *w) {
             domepeeler_say_alike(w, w->said, like, i);
             domepeeler_say(w->said, " show the same one%s", ++told == groups ? ")" : "");
         }
-        if (count) domepeeler_say(w->said, ": %s in this recording. %s", never.text ? never.text : "", lost);
+        for (int i = 0; i < w->d->replicas; i++) is_apart |= lacks[i] && like[i] < 0;
+        if (count) domepeeler_say(w->said, is_apart ? "\nin this recording %s. %s" : ": %s in this recording. %s", never.text ? never.text : "", lost);
         domepeeler_say(w->said, "\n");
     } else if (count) {
         domepeeler_say(w->said, "in this recording %s. %s\n", never.text ? never.text : "", lost);

@@ -995,6 +995,7 @@ function different(ends, late) {
   const replicas = [...lists.values()].flat().sort((a, b) => a - b)
   const same = [...lists.values()].filter((one) => one.length > 1).map((one) => `${joined(one)} show the same one`)
   const said = `the last lists of replicas ${joined(replicas)} differ${same.length ? ` (${same.join("; ")})` : ""}`
+  if (lacking.some(({ count }, replica) => count && !replicas.includes(replica))) return [said, `in this recording ${never.join("; ")}. ${lost}`]
   return [never.length ? `${said}: ${never.join("; ")} in this recording. ${lost}` : said]
 }
 

@@ -1003,9 +1003,11 @@ def _different(ends: List[_End], late: Dict[int, List[str]]) -> List[str]:
     lost = "Unless it was still on its way, it was lost or is held back" if is_one else "Unless they were still on their way, they were lost or are held back"
     if len(lists) < 2:
         return [f"in this recording {lacked}. {lost}"] if never else []
-    among = _joined(map(str, sorted(sum(lists.values(), []))))
+    among = sorted(sum(lists.values(), []))
     same = [f"{_joined(map(str, one))} show the same one" for one in lists.values() if len(one) > 1]
-    told = f"the last lists of replicas {among} differ" + (f" ({'; '.join(same)})" if same else "")
+    told = f"the last lists of replicas {_joined(map(str, among))} differ" + (f" ({'; '.join(same)})" if same else "")
+    if any(count and replica not in among for replica, (_, count) in lacking):
+        return [told, f"in this recording {lacked}. {lost}"]
     return [f"{told}: {lacked} in this recording. {lost}" if never else told]
 
 

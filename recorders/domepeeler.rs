@@ -1431,6 +1431,9 @@ impl<'a> Warned<'a> {
             same => format!(" ({same})"),
         };
         let told = format!("the last lists of replicas {} differ{same}", joined(&replicas));
+        if lacking.iter().any(|(replica, changes)| !changes.is_empty() && !replicas.contains(replica)) {
+            return vec![told, format!("in this recording {never}. {lost}")];
+        }
         vec![if count == 0 { told } else { format!("{told}: {never} in this recording. {lost}") }]
     }
 

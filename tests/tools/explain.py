@@ -123,8 +123,7 @@ WORDS = [
      "deleted. If replicas throw deleted elements away, nothing says then where the insert belongs; if they keep them, the search for its place must treat them like elements that are shown.|"
      "If the list is sorted by position identifiers, print those of r, s and z at line 22. They must rise in this order. If they do not, look at how the identifier of s was made; if they do, at how "
      "identifiers are compared (numbers must not be compared as text).|If the editor sends positions, the position of s was perhaps not adjusted for the delete of a by 1.2 (line 9), the delete of b "
-     "by 1.4 (line 13), the delete of c by 1.6 (line 17) and the delete of r by 1.8 (line 21), which replica 1 knew and the author of s did not. Or one of these deletes went wrong before: its author had not seen "
-     "the insert of p by 0.5 (line 10), the insert of q by 0.6 (line 14) and the insert of r by 0.7 (line 18), for which it must be adjusted." + stop(23, "replica 1 applies 0.8", 7)),
+     "by 1.4 (line 13), the delete of c by 1.6 (line 17) and the delete of r by 1.8 (line 21), which replica 1 knew and the author of s did not." + stop(23, "replica 1 applies 0.8", 7)),
     ("a local delete whose change names another element than the one that is gone", 2, "0 ins a 0 : a|1 recv 0 1|1 ins b 1 : a b|1 del a : b|1 del c :",
      "Where to look|1.3 (line 7) deletes c; but c does not stand in 1.2 (line 6) and no line inserts it, while b is gone. Look at which ids a local delete puts into "
      "the change that it sends: where it deletes several, each element has an id of its own, and these need not be consecutive." + stop(7, "replica 1 deletes c", together=6)),
@@ -235,7 +234,7 @@ WORDS = [
      "Look at positions beside deleted elements: any two of 2.1, 0.3 and 1.1 fit together, but not all three; perhaps an insert lost its place "
      "because its neighbour was deleted meanwhile. Look first at where replica 0 placed b in line 10: it belongs beside x, which had been deleted there.|"
      "For the verdict on the whole trace: look at where a replica places an incoming insert beside a deleted element: [a] was put before [x] (1.1, line 6), and [b] behind it (2.1, line 7), so [x] settles their order, also where it is deleted; yet 0.3 (line 11) shows them the other way round. The rule for concurrent inserts must not decide this.|For the verdict on the whole trace: if the list is sorted by position identifiers, look at those of a and b: are the two equal, does one differ between replicas, are numbers compared as text, or is one of them not between the identifiers of its neighbours?|For the verdict on the whole trace: if the editor sends positions, the position of b was perhaps not adjusted for the delete of x by 0.2 (line 8), which replica 1 "
-     "knew and the author of b did not. Or that delete went wrong before: its author had not seen the insert of a by 1.1 (line 6), for which it must be adjusted.|"
+     "knew and the author of b did not. Or perhaps, when 0.2 came to replica 1 in line 12, its position was not adjusted for the insert of a by 1.1 (line 6).|"
      "" + stop(10, "replica 0 applies 2.1", 9, 5, 4, together=9) + "||What the whole trace shows: a circle, which no order allows|"
      "[a] before [b]: line 14, 1.2: replica 1 read the list, answered [a] [b]|"
      "[b] before [a]: line 11, 0.3: replica 0 read the list, answered [b] [a]"),
@@ -562,7 +561,7 @@ FAULTS = [
     (b"trace 1\nreplicas 1\n0 ins a,1 0 : a,1\n", "line 3: shape",
      "`a,1`, after `ins`, is not a name (1 to 32 letters, digits, `_`, `-` or `.`)"),
     (b"trace 1\nreplicas 1\n0 ins a first : a\n", "line 3: shape",
-     "behind the element stands `first`, but its position belongs there: a number (digits without leading zeros, at most 4294967295)"),
+     "`first` stands where the position belongs, behind the element. A position is a number (digits without leading zeros, at most 4294967295)"),
     (b"trace 1\nreplicas 1\n0 read : a@1\n", "line 3: shape",
      "`a@1`, in the response, is not a name (1 to 32 letters, digits, `_`, `-` or `.`)"),
     (b"trace 1\nreplicas 1\n0 read : \xc3\xa4\n", "line 3: shape",
@@ -701,6 +700,9 @@ WARNED = [
      f"0.4 (line 10) and 0.5 (line 11) never arrived at replica 2 in this recording. {THEY}"),
     ("one that makes nothing of what came last", 2, "0 ins a 0 : a|1 recv 0 1|1 read : a|0 ins b 1 : a b|0 read : a b|1 recv 0 3",
      f"replica 1 shows no list after its last receipt, of 0.3 (line 8): {UNSHOWN}"),
+    ("one that makes nothing of what came last, and lacks another change", 3, "0 ins a 0 : a|1 recv 0 1|1 read : a|0 ins b 1 : a b|1 recv 0 2|2 recv 0 1|2 read : a|0 ins c 2 : a b c",
+     f"replica 1 shows no list after its last receipt, of 0.2 (line 7): {UNSHOWN}|the last lists of replicas 0 and 2 differ|"
+     f"in this recording 0.3 (line 10) never arrived at replica 1; 0.2 (line 6) and 0.3 (line 10) never arrived at replica 2. {THEY}"),
     ("one that receives what it has", 2, "0 ins a 0 : a|1 recv 0 1|1 read : a|0 read : a|1 recv 0 2|1 recv 0 1", ""),
     ("lists in other orders", 2, "0 ins a 0 : a|0 ins b 1 : a b|1 recv 0 2|1 read : a b", ""),
 ]
@@ -751,7 +753,7 @@ Extra
 [a] deleted by 0.3 (line 7), which arrived at replica 1 in line 10 (1 recv 0 3, written by the call `delivered`)
 
 Where to look
-It looks as if 0.2 (line 6) never reached replica 1. Only what the call `delivered` wrote (line 10) says that 0.2 arrived; no response of replica 1 shows it. \
+It looks as if 0.2 (line 6) never reached replica 1. By the call `delivered` (line 10) 0.2 arrived there, but no response of replica 1 shows it. \
 Perhaps 0.2 was lost, or is held back for ever, or `delivered` was called too early. Later changes that perhaps wait for 0.2: 0.3 (line 7). Look at what keeps changes waiting.
 
 In a debugger
@@ -1249,7 +1251,7 @@ def undelivered(tally: Tally, program: str, folder: str) -> None:
         tally.check(f"undelivered: {name}", UNDELIVERED_WORDS in told, said)
     kept = small.read_text().splitlines()[2:], Path(f"{small}.lines").read_text().splitlines()
     again = explain(program, [str(small)]).out.decode()
-    tally.check("undelivered: the small trace says the same", "Only what the call `delivered` wrote (line " in again and kept[1][0] == str(2 + len(kept[0])), (kept, again))
+    tally.check("undelivered: the small trace says the same", "By the call `delivered` (line " in again and kept[1][0] == str(2 + len(kept[0])), (kept, again))
     for beside in "11\n", "11\ndelivered 3 3\n", "11\ndelivered x\n":
         Path(f"{path}.lines").write_text(beside)
         said = explain(program, [str(path)]).out.decode()
@@ -1771,7 +1773,7 @@ FIRST_TOLD = {
         "[l] was put directly behind n (0.1 (line 3)), and n and [o] were inserted at the front without knowing of each other. n is deleted at replica 0, which never showed n and [o] together: perhaps it still keeps n, but on the other side of [o] than replica 2 has it. Then "
         "[l], put rightly beside n, stands there too. So look first at where these concurrent inserts were put when they arrived: n in line 5 (replica 2), o in line 6 (replica 2) and o in line 10 (replica 0)."),
     "one replica alone in its order": ("positions", 3, "2 ins a 0 : a|2 ins b 0 : b a|1 ins c 0 : c|2 recv 1 1|2 read : b c a|0 recv 1 1|0 recv 2 1|0 read : a c|1 recv 2 1|1 read : a c",
-        "Replicas 0 and 1 show a before c. Replica 2 alone shows them the other way round, first in 2.3 (line 7): so look first at what it did in line 6, when 1.1 came. When 1.1 arrived, replica 2 had two changes of its own that the author of 1.1 did not know yet: the insert of a by 2.1 (line 3) and the insert of b by 2.2 (line 4). 1.1 must be adjusted for all of these, one after another, and each of them for 1.1. Changes that still wait to be sent count too."),
+        "Replicas 0 and 1 show a before c. Replica 2 alone shows them the other way round, first in 2.3 (line 7): so look first at what it did in line 6, when 1.1 came. When 1.1 arrived, replica 2 had two changes of its own that the author of 1.1 did not know yet: the insert of a by 2.1 (line 3) and the insert of b by 2.2 (line 4). Adjust 1.1 for each of these, one after another; and adjust each of these for 1.1. Changes that still wait to be sent count too."),
     "one replica alone, with one change on its way": ("positions", 3, "2 ins a 0 : a|1 ins c 0 : c|2 recv 1 1|2 read : c a|0 recv 1 1|0 recv 2 1|0 read : a c|1 recv 2 1|1 read : a c",
         "Replicas 0 and 1 show a before c. Replica 2 alone shows them the other way round, first in 2.2 (line 6): so look first at what it did in line 5, when 1.1 came. When 1.1 arrived, replica 2 had one change of its own that the author of 1.1 did not know yet, the insert of a by 2.1 (line 3): this and 1.1 must each be adjusted for the other."),
     "an order that its author knew, with one change on its way": ("positions", 2, "0 ins a 0 : a|1 recv 0 1|1 read : a|1 ins c 1 : a c|0 ins b 0 : b a|1 recv 0 2|1 read : a b c",
@@ -1838,7 +1840,7 @@ def first_told(tally: Tally, program: str, folder: str) -> None:
     for kind, server in ("positions", ", and at what the server (if it adjusts positions) makes of that"), ("neighbours", ""):
         told = explain(program, ["--editor", kind, str(path)]).out.decode()
         tally.check(f"first told: {kind}: a delete that is wrong at two replicas", f"Replica 2 lacks b too, in 2.2 (line 13): so look first at what is sent{server}, and only then at replica 1. It looks as if" in told, told)
-    own = "When 0.2 arrived, replica 1 had two changes of its own that the author of 0.2 did not know yet: the insert of b by 1.2 (line 6) and the delete of a by 1.3 (line 7). 0.2 must be adjusted for all of these, one after another, and each of them for 0.2."
+    own = "When 0.2 arrived, replica 1 had two changes of its own that the author of 0.2 did not know yet: the insert of b by 1.2 (line 6) and the delete of a by 1.3 (line 7). Adjust 0.2 for each of these, one after another; and adjust each of these for 0.2."
     twice = "0 ins a 0 : a|1 recv 0 1|1 read : a|1 ins b 1 : a b|1 del a : b|0 del a :|1 recv 0 2|1 read :"
     for name, entries, lacks in ("alone", "", False), ("and a third that has got its delete", "|2 recv 1 3|2 recv 0 2|2 read :", False), ("and a third that hasn't", "|2 recv 1 2|2 recv 0 2|2 read :", True):
         path.write_text(text_of(3, twice + entries))
@@ -1897,11 +1899,10 @@ def first_told(tally: Tally, program: str, folder: str) -> None:
                  "anew, without the mark that they are deleted?")
         brought = {"an insert": "2.2 inserts d", "a delete": "2.2 deletes a (deleted there already, by 1.3 (line 11))",
                    "several": "2.2 deletes a (deleted there already, by 1.3 (line 11)), 2.3 inserts d"}[what]
-        many = "a receipt counts for all that the operation's author had by then, so "
         for kind in "", "neighbours", "positions":
             told = explain(program, [*(["--editor", kind] if kind else []), str(path)]).out.decode()
             tally.check(f"first told: {kind}: what another had deleted came back, by {what}", (words in told) == (kind != "positions") and (
-                f"since then it received 2.{2 + (what == 'several')} (line {line})\n  {many if what == 'several' else ''}that brought: {brought}\n") in told, told)
+                f"since then it received 2.{2 + (what == 'several')} (line {line})\n  new there by then, as the receipts say: {brought}\n") in told, told)
     path.write_text(text_of(3, "0 ins a 0 : a|0 ins b 1 : a b|1 recv 0 2|2 recv 0 2|1 ins c 1 : a c b|2 ins d 1 : a d b|0 del a : b|0 del b :|2 recv 0 4|2 read : d b|1 recv 0 4|1 read : c b"))
     told = explain(program, ["--editor", "neighbours", str(path)]).out.decode()
     tally.check("first told: deletes that stop at others' elements, at two replicas", "0.4 (line 10) was not applied at replica 2: lost, or held back, or `received` is called before the change is applied.\n" in told, told)
@@ -2642,7 +2643,7 @@ def weak_files(tally: Tally, program: str, folder: str) -> None:
                             str(path)])
     small = run(program, ["verdict", f"{folder}/weak_small.trace"])
     tally.check("weak: the small trace keeps the verdict", got.status == 0 and re.search(r"/weak_small\.trace \(\d+ lines\) has the same verdict as ", got.out.decode()) and
-                b"it may answer rightly" in got.out and b"\nrefused 3\nstrong no\nweak yes\n" in small.out, (got, small))
+                b"may not show the bug" in got.out and b"\nrefused 3\nstrong no\nweak yes\n" in small.out, (got, small))
     tally.check("weak: the picture", Path(folder, "weak.svg").is_file(), got)
     page = Path(folder, "weak.html").read_text()
     tally.check("weak: the page", '<body class="accepted">' in page and

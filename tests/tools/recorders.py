@@ -1608,6 +1608,10 @@ WARNED = [
      ["replica 1 shows no list after its last receipts, of 0.1 (line 5) and 0.2 (line 8): let each replica read at the end"]),
     ("nothing shown of what came last", ["new 2", "insert 0 a 0 a", "read 1", "received 1 0 1", "received 1 0 1"],
      ["replica 1 shows no list after its last receipt, of 0.1 (line 5): let each replica read at the end"]),
+    ("nothing shown of what came last, and a change that never came", ["new 3", "insert 0 a 0 a", "received 1 0 1", "read 1 a", "insert 0 b 1 a b",
+                                                                      "received 1 0 2", "received 2 0 1", "read 2 a", "insert 0 c 2 a b c"],
+     ["replica 1 shows no list after its last receipt, of 0.2 (line 7): let each replica read at the end", "the last lists of replicas 0 and 2 differ",
+      f"in this recording 0.3 (line 10) never arrived at replica 1; 0.2 (line 6) and 0.3 (line 10) never arrived at replica 2. {LOST_SOME}"]),
     ("nothing shown of several", ["new 2", "insert 0 a 0 a", "insert 0 b 0 b a", "insert 0 c 0 c b a", "insert 0 d 0 d c b a",
                                   "insert 0 e 0 e d c b a", "view 1", *(f"received 1 0 {n}" for n in range(1, 6))],
      ["replica 1 shows no list after its last receipts, of 0.1 (line 9), 0.2 (line 10), 0.3 (line 11) and 2 more: let each "
@@ -1796,7 +1800,7 @@ def check_explains_file(tally: Tally, recorder: Recorder, folder: Path) -> None:
     told = subprocess.run([EXPLAIN, trace], capture_output=True, text=True, env=recorder.surroundings)
     said = [line[2:] for line in got[len(lost) + 1:-1]]
     tally.check(f"{recorder.language}: explains a file of a session that ends with delivered", told.returncode == 1 and
-                said == told.stdout.splitlines() and "never reached replica 1. Only what the call `delivered` wrote (line 5) says that 0.1 arrived; no response of replica 1 shows it." in told.stdout and
+                said == told.stdout.splitlines() and "never reached replica 1. By the call `delivered` (line 5) 0.1 arrived there, but no response of replica 1 shows it." in told.stdout and
                 "arrived at replica 1 in line 5 (1 recv 0 1, written by the call `delivered`)" in told.stdout, (said, told))
 
 

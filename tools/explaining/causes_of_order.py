@@ -4,7 +4,7 @@ from __future__ import annotations
 import re
 
 from .cause import ALONE, BY_ITSELF, MOST_MET, MOST_TOLD, OWN_ADJUSTED, Cause, at_once, deleted_twice, emptied, is_agreed, is_deleted, lost, named, on_way_then, otherwise
-from .evidence import Evidence
+from .evidence import Arrival, Evidence
 from .kinds import BY_ELEMENTS, IDENTIFIERS, NEIGHBOURS, POSITIONS, TREE, is_possible
 from .positions import are_put_at_once, elements_before, is_known, list_of, met_inserts, neighbours, put_there_at_once
 from .recordings import Operation, Receipt, place_asked
@@ -131,8 +131,7 @@ TURNED_BY_ITSELF = ("Replica {replica} shows {two} before {one} in {before}, and
                     "recorded did that: ")
 MOVED_INSERT = ("If the editor sends positions, the position of {element} was perhaps not adjusted for {changes}, which replica {replica} "
                 "knew and the author of {element} did not.{back}")
-MOVED_BACK = {True: " Or that delete went wrong before: its author had not seen {inserts}, for which it must be adjusted.",
-              False: " Or one of these deletes went wrong before: its author had not seen {inserts}, for which it must be adjusted."}
+MOVED_BACK = " Or perhaps, when {delete} came to replica {replica} in line {line}, its position was not adjusted for {inserts}."
 
 
 def of_position(evidence: Evidence) -> list:
@@ -602,6 +601,8 @@ def moved_over(evidence: Evidence) -> dict:
     unknown = [delete for delete in unknown if delete.element in before] or [delete for delete in unknown if delete.element not in behind]
     if not unknown:
         return {}
-    met = dict.fromkeys(insert for delete in unknown for insert in met_inserts(evidence.recording, delete, arrival))
-    back = MOVED_BACK[len(unknown) == 1].format(inserts=named(sorted(met, key=lambda insert: insert.line))) if met else ""
+    replica = arrival.receipt.replica
+    came = [(delete, evidence.recording.arrival(delete, replica)) for delete in unknown if delete.replica != replica]
+    met = [(delete, receipt, met_inserts(evidence.recording, delete, Arrival(receipt, arrival.insert))) for delete, receipt in came]
+    back = "".join(MOVED_BACK.format(delete=delete.name, replica=replica, line=receipt.line, inserts=named(inserts)) for delete, receipt, inserts in [one for one in met if one[2]][:1])
     return {"element": arrival.insert.element, "changes": named(unknown), "replica": arrival.receipt.replica, "back": back}

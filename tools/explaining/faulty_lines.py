@@ -195,7 +195,7 @@ def wrong_word(words: list, looked: Part) -> str | None:
     if kind in ("ins", "del") and not is_name(third):
         return f"{quoted(third)}, after `{kind}`, is not {NAME}"
     if kind == "ins" and not is_number(fourth):
-        return f"behind the element stands {quoted(fourth)}, but its position belongs there: {NUMBER}"
+        return f"{quoted(fourth)} stands where the position belongs, behind the element. A position is {NUMBER}"
     colon = {2: third, 3: fourth, 4: fifth}[KINDS[kind]]
     if readable(colon) != ":":
         return "the colon between the operation and its response is missing, or not a word by itself"

@@ -149,9 +149,11 @@ def different(replicas: list, late: dict) -> list:
     lost = "Unless it was still on its way, it was lost or is held back" if is_one else "Unless they were still on their way, they were lost or are held back"
     if len(lists) < 2:
         return [f"in this recording {lacking_told}. {lost}"] if never else []
-    among = joined(sorted(replica for same in lists.values() for replica in same))
+    among = sorted(replica for same in lists.values() for replica in same)
     same = [f"{joined(one)} show the same one" for one in lists.values() if len(one) > 1]
-    told = f"the last lists of replicas {among} differ" + (f" ({'; '.join(same)})" if same else "")
+    told = f"the last lists of replicas {joined(among)} differ" + (f" ({'; '.join(same)})" if same else "")
+    if any(count and replica not in among for replica, _, count in lacking):
+        return [told, f"in this recording {lacking_told}. {lost}"]
     return [f"{told}: {lacking_told} in this recording. {lost}" if never else told]
 
 

@@ -351,9 +351,7 @@ def brought(evidence: Evidence, operation: Operation) -> list:
     kept = [change for change in came if change.element not in gone]
     told = [did_there(evidence, change, operation.replica) for change in kept[:MOST_ARRIVED]]
     more = f" and {len(kept) - MOST_ARRIVED} more" if len(kept) > MOST_ARRIVED else ""
-    named = {receipt.seen for receipt in receipts}
-    why = "that brought" if all(change in named for change in kept) else "a receipt counts for all that the operation's author had by then, so that brought"
-    return [f"{why}: {', '.join(told)}{more}"] if told else []
+    return [f"new there by then, as the receipts say: {', '.join(told)}{more}"] if told else []
 
 
 def did_there(evidence: Evidence, change: Operation, replica: int) -> str:
