@@ -176,7 +176,7 @@ PROSEMIRROR = {
     "lost_text": ("plan 3 causal|0 ins a at 0|0 ins b after a|2 take 0 : 0.1 0.2|1 take 2 : 0.1 0.2|1 ins x before b|0 del a|0 del b|"
                   "2 take 0 : 0.3 0.4|1 take 2 : 0.3 0.4|end",
                   "contents 1.3: this response lacks one element that replica 1 should have had by then.|"
-                  "before it: replica 1's 1.2 (line 7) answered a [x] b, as it should; since then it received 0.4 (line 10)|[x] is never deleted|"
+                  "before it: replica 1's 1.2 (line 7) answered a [x] b, as it should; since then it received 0.4 (line 10, deletes b)|[x] is never deleted|"
                   "strong and weak fail"),
     "insert_deletes": ("plan 3 causal|0 ins x at 0|2 take 0 : 0.1|1 take 2 : 0.1|1 ins b after x|1 ins a before x|1 del x|1 ins c after a|"
                        "0 del x|2 take 0 : 0.2|1 take 2 : 0.2|end",

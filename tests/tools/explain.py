@@ -66,7 +66,7 @@ def stop(line: int, doing: str, *others: int, together: int = 0) -> str:
     stops = f"It stops when {line - 1} lines have been recorded."
     if together:
         both = f"{together} {'and' if together + 1 == line else 'to'} {line}"
-        stops = f"It stops before line {line}, and before line {together} too, since one call may apply lines {both} together."
+        stops = f"It stops when {line - 1} lines have been recorded, that is before line {line}, and when {together - 1} have, since one call may apply lines {both} together."
     asked = f"if recording.lines() in ({together - 1}, {line - 1}): breakpoint()" if together else asked
     where += f". {stops}"
     return f"|In a debugger|stop before line {line} of the trace, where {doing}.|In Python, put this code {where}|{asked}"
@@ -270,7 +270,7 @@ WORDS = [
      "0 ins a 0 : a|1 recv 0 1|1 ins b 1 : a b|2 recv 1 1|2 read : b",
      "contents 2.1: this response lacks one element that replica 2 should have had by then.|"
      "line 7 of the trace, 2.1: replica 2 read the list|answered: b|it should hold, in any order: b [a]|"
-     "before it: replica 2 did nothing, and received 1.1 (line 6)|Missing|"
+     "before it: replica 2 did nothing, and received 1.1 (line 6, inserts b)|what its author had should have come too: 0.1 (line 3, inserts a)|Missing|"
      "[a] inserted by 0.1 (line 3), which arrived at replica 1 in line 4 (1 recv 0 1). "
      "Replica 2 should have had it since line 6 (2 recv 1 1): the author of 1.1 had it, so 1.1 must not arrive before it|[a] 0.1 has no receipt of its own at replica 2, though the author of 1.1 had it. So "
      "either the message of line 6 carried 0.1 too, or 1.1 came before 0.1, which is not causal order|[a] is never deleted||Where to look|"
@@ -367,7 +367,7 @@ WORDS = [
     ("a second delete of one element takes its neighbour", 2, "0 ins a 0 : a|0 ins b 1 : a b|1 recv 0 2|1 read : a b|0 del a : b|1 del a : b|"
      "1 recv 0 3|1 read :",
      "contents 1.3: this response lacks one element that replica 1 should have had by then.|answered: (nothing)|"
-     "it should hold, in any order: [b]|before it: replica 1's 1.2 (line 8) answered [b], as it should; since then it received 0.3 (line 9)|"
+     "it should hold, in any order: [b]|before it: replica 1's 1.2 (line 8) answered [b], as it should; since then it received 0.3 (line 9, deletes a, already deleted there by 1.2)|"
      "Missing|[b] inserted by 0.2 (line 4), which arrived at replica 1 in line 5 (1 recv 0 2)|"
      "[b] was put behind a. When it arrived at replica 1 in line 5, a was still there|[b] is never deleted||"
      "Where to look|"
@@ -753,7 +753,7 @@ Extra
 [a] deleted by 0.3 (line 7), which arrived at replica 1 in line 10 (1 recv 0 3, written by the call `delivered`)
 
 Where to look
-It looks as if 0.2 (line 6) never reached replica 1. By the call `delivered` (line 10) 0.2 arrived there, but no response of replica 1 shows it. \
+It looks as if 0.2 (line 6) never reached replica 1, though the call `delivered` (line 10) says that everything has arrived. \
 Perhaps 0.2 was lost, or is held back for ever, or `delivered` was called too early. Later changes that perhaps wait for 0.2: 0.3 (line 7). Look at what keeps changes waiting.
 
 In a debugger
@@ -1222,7 +1222,7 @@ def places(tally: Tally, program: str, folder: str) -> None:
     for name, wanted in FOR_TWO.items():
         got = explain(program, ["--language", name, "-"], text_of(2, "0 ins a 0 : a|0 ins b 1 : a b|1 recv 0 1|1 recv 0 2|1 read : a").encode()).out.decode()
         tally.check(f"a debugger: {name}, receipts that stand together", paragraph(got, "In a debugger").endswith(
-            f". It stops before line 6, and before line 5 too, since one call may apply lines 5 and 6 together.\n    {wanted}"), got)
+            f". It stops when 5 lines have been recorded, that is before line 6, and when 4 have, since one call may apply lines 5 and 6 together.\n    {wanted}"), got)
     undelivered(tally, program, folder)
     path.write_text(text_of(2, PLACED))
     for beside, wanted in NOTES:
@@ -1251,7 +1251,7 @@ def undelivered(tally: Tally, program: str, folder: str) -> None:
         tally.check(f"undelivered: {name}", UNDELIVERED_WORDS in told, said)
     kept = small.read_text().splitlines()[2:], Path(f"{small}.lines").read_text().splitlines()
     again = explain(program, [str(small)]).out.decode()
-    tally.check("undelivered: the small trace says the same", "By the call `delivered` (line " in again and kept[1][0] == str(2 + len(kept[0])), (kept, again))
+    tally.check("undelivered: the small trace says the same", "though the call `delivered` (line " in again and kept[1][0] == str(2 + len(kept[0])), (kept, again))
     for beside in "11\n", "11\ndelivered 3 3\n", "11\ndelivered x\n":
         Path(f"{path}.lines").write_text(beside)
         said = explain(program, [str(path)]).out.decode()
@@ -1891,18 +1891,17 @@ def first_told(tally: Tally, program: str, folder: str) -> None:
     for what, entries in ("an insert", "2 ins d 2 : a b d c"), ("a delete", "2 del a : b c"), ("several", "2 del a : b c|2 ins d 1 : b d c"):
         shown = "b d c" if "ins" in entries else "b c"
         path.write_text(text_of(3, f"{back}|{entries}|1 recv 2 {2 + (what == 'several')}|1 read : {shown}"))
-        line = 16 if what == "several" else 15
         begins = {"an insert": "When the insert of d by 2.2 (line 14) came in line 15, b came back", "a delete": "When the delete of a by 2.2 (line 14) came in line 15, b came back",
                   "several": "When the delete of a by 2.2 (line 14) and the insert of d by 2.3 (line 15) came, b came back"}[what]
         does = {"an insert": "the insert of d does", "a delete": "the delete of a does", "several": "each of these changes does"}[what]
         words = (f"{begins}, which was deleted at replica 1 before, by 0.4 (line 8), and not shown in 1.3 (line 11). Look at what {does} there to the elements beside it: is a run (block) of them split, or made "
                  "anew, without the mark that they are deleted?")
-        brought = {"an insert": "2.2 inserts d", "a delete": "2.2 deletes a (deleted there already, by 1.3 (line 11))",
-                   "several": "2.2 deletes a (deleted there already, by 1.3 (line 11)), 2.3 inserts d"}[what]
+        came = {"an insert": "2.2 (line 15, inserts d)\n\n", "a delete": "2.2 (line 15, deletes a, already deleted there by 1.3)\n\n",
+                "several": "2.3 (line 16, inserts d)\n  what its author had should have come too: 2.2 (line 14, deletes a, already deleted there by 1.3)\n"}[what]
         for kind in "", "neighbours", "positions":
             told = explain(program, [*(["--editor", kind] if kind else []), str(path)]).out.decode()
             tally.check(f"first told: {kind}: what another had deleted came back, by {what}", (words in told) == (kind != "positions") and (
-                f"since then it received 2.{2 + (what == 'several')} (line {line})\n  new there by then, as the receipts say: {brought}\n") in told, told)
+                f"since then it received {came}") in told, told)
     path.write_text(text_of(3, "0 ins a 0 : a|0 ins b 1 : a b|1 recv 0 2|2 recv 0 2|1 ins c 1 : a c b|2 ins d 1 : a d b|0 del a : b|0 del b :|2 recv 0 4|2 read : d b|1 recv 0 4|1 read : c b"))
     told = explain(program, ["--editor", "neighbours", str(path)]).out.decode()
     tally.check("first told: deletes that stop at others' elements, at two replicas", "0.4 (line 10) was not applied at replica 2: lost, or held back, or `received` is called before the change is applied.\n" in told, told)

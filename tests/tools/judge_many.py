@@ -389,14 +389,14 @@ IN_COMMON = {
         "  a change arrived that was concurrent with one of the receiver's own: this came before the wrong list in all 5; 2 of the 12 that pass have it too"]),
     # Of 48 correct lists 12 come so: one in each failing session, two in each of the four that pass.
     "at one place": ([(4, f"{TIED} b a")], [(4, f"{TIED} a b"), (4, IN_TURN)], [
-        "  an insert arrived at a place where an element stood that the insert's author had not seen: this came just before the wrong list in all 4, and just before 12 of the 48 correct lists",
-        "  a change arrived that was concurrent with one of the receiver's own: this came just before the wrong list in all 4, and just before 12 of the 48 correct lists",
+        "  an insert arrived at a place where an element stood that the insert's author had not seen: this came just before the wrong list in all 4 (100 %), and just before 12 of all 48 correct lists (25 %)",
+        "  a change arrived that was concurrent with one of the receiver's own: this came just before the wrong list in all 4 (100 %), and just before 12 of all 48 correct lists (25 %)",
         "  Up to where they fail, 4 of the 4 have no deletes: so the bug does not need these."]),
     "none that pass, and few lists": ([(3, BEGUN_ONCE)], [], []),
     # Of 24 correct lists 8 come so.
     "none that pass": ([(8, f"{TIED} b a")], [], [
-        "  an insert arrived at a place where an element stood that the insert's author had not seen: this came just before the wrong list in all 8, and just before 8 of the 24 correct lists",
-        "  a change arrived that was concurrent with one of the receiver's own: this came just before the wrong list in all 8, and just before 8 of the 24 correct lists",
+        "  an insert arrived at a place where an element stood that the insert's author had not seen: this came just before the wrong list in all 8 (100 %), and just before 8 of all 24 correct lists (33 %)",
+        "  a change arrived that was concurrent with one of the receiver's own: this came just before the wrong list in all 8 (100 %), and just before 8 of all 24 correct lists (33 %)",
         "  Up to where they fail, 8 of the 8 have no deletes: so the bug does not need these."]),
     "too few": ([(2, BEGUN_TWICE)], [(10, RIGHT_ONCE)], []),
     "nothing stands out": ([(3, BEGUN_TWICE)], [(9, RIGHT_TWICE)], []),
@@ -770,8 +770,8 @@ def warnings(tally: Tally, program: str, folder: str) -> None:
         (f"{folder}/{name}.trace", count) for name, count in (("lost", "1"), ("apart", "3"), ("fine", "0")))], lines)
     tally.check("noted: the column", [cells(line)[7] for line in lines[:4]] == ["noted", "-", "-", "seed 17"], lines)
     tally.check("unequal: the verdict, and the count", [cells(line)[1] for line in lines[1:4]] == ["failed", "accepted, unequal", "accepted"]
-                and lines[4:] == ["3 traces: 2 accepted, 1 failed", "1 of those accepted is unequal: replicas end with different lists, or one "
-                                  "lacks a change or a last list (with --unequal these count as failures)"], lines)
+                and lines[4:] == ["3 traces: 2 accepted, 1 failed", "1 of those accepted is unequal: replicas end with different lists, a change "
+                                  "never arrived, or a replica was not read at the end (with --unequal these count as failures)"], lines)
     error, *warned = got.err.decode().splitlines()
     cut = f"the trace may have been cut at a line's end: it has 4 lines, and {folder}/lost.trace.lines says that 9 were saved"
     said = [line.partition(": warning: ") for line in warned]
@@ -804,8 +804,8 @@ def unequal(tally: Tally, program: str, folder: str) -> None:
     got = judge(program, ["--unequal", "--failing", "--junit", junit_file, one, f"{folder}/fine.trace"])
     lines = got.out.decode().splitlines()
     tally.check("unequal: it fails where that is asked for", got.status == 1 and [cells(line)[:2] for line in lines[1:2]] == [(one, "accepted, unequal")]
-                and lines[2:] == ["2 traces: 2 accepted", "1 of those accepted is unequal: replicas end with different lists, or one lacks a "
-                                  "change or a last list (counted as failures)"], got)
+                and lines[2:] == ["2 traces: 2 accepted", "1 of those accepted is unequal: replicas end with different lists, a change never "
+                                  "arrived, or a replica was not read at the end (counted as failures)"], got)
     faults = [(fault.tag, fault.get("type"), fault.get("message")) for case in xml.parse(junit_file).getroot().iter("testcase") for fault in case]
     tally.check("unequal: JUnit's failure", faults == [("failure", "unequal", "accepted, but unequal in the end: the last lists of replicas 0 and 1 "
                                                         "differ")], faults)
@@ -2157,7 +2157,7 @@ WEAK = {"alone.trace": f"{CYCLE}|1 recv 0 2|1 recv 2 1|1 read : b a|2 recv 0 2|2
 WEAK_ROWS = [("lost.trace", "contents", "-", "no", "14", "14"), ("opposite.trace", "refused", "2", "no", "14", "17"),
              ("unequal.trace", "weak holds, strong doesn't, unequal", "3", "yes", "-", "11"),
              ("alone.trace", "weak holds, strong doesn't", "3", "yes", "-", "17"), ("right.trace", "accepted", "-", "yes", "-", "7")]
-UNEQUAL = "1 of those that pass is unequal: replicas end with different lists, or one lacks a change or a last list ({})"
+UNEQUAL = "1 of those that pass is unequal: replicas end with different lists, a change never arrived, or a replica was not read at the end ({})"
 
 
 def weak(tally: Tally, program: str, folder: str) -> None:

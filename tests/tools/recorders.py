@@ -1800,7 +1800,7 @@ def check_explains_file(tally: Tally, recorder: Recorder, folder: Path) -> None:
     told = subprocess.run([EXPLAIN, trace], capture_output=True, text=True, env=recorder.surroundings)
     said = [line[2:] for line in got[len(lost) + 1:-1]]
     tally.check(f"{recorder.language}: explains a file of a session that ends with delivered", told.returncode == 1 and
-                said == told.stdout.splitlines() and "never reached replica 1. By the call `delivered` (line 5) 0.1 arrived there, but no response of replica 1 shows it." in told.stdout and
+                said == told.stdout.splitlines() and "never reached replica 1, though the call `delivered` (line 5) says that everything has arrived." in told.stdout and
                 "arrived at replica 1 in line 5 (1 recv 0 1, written by the call `delivered`)" in told.stdout, (said, told))
 
 

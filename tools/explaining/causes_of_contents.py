@@ -16,7 +16,7 @@ LOCAL = ("The replica received nothing between {before} and this response, so lo
 APPLIED_TWICE = ("It looks as if {changes} {were} applied twice at replica {replica}: look at what the editor does with a change that arrives a second "
                  "time{back}, and at whether a change that was held back is applied twice: on arrival and again later.")
 OWN_BACK = " (a server may send a replica its own changes back)"
-UNDELIVERED = ("It looks as if {changes} never reached replica {replica}. By the call `delivered` ({lines}) {names} arrived there, but no response of replica {replica} shows it. Perhaps {names} "
+UNDELIVERED = ("It looks as if {changes} never reached replica {replica}, though the call `delivered` ({lines}) says that everything has arrived. Perhaps {names} "
                "{were} lost, or {are} held back for ever, or `delivered` was called too early.{waiting} Look at what keeps changes waiting.")
 WAITING = " Later changes that perhaps wait for {names}: {others}."
 NO_PLACE = (" Perhaps {insert} finds no place there for {element}: its neighbour {neighbours}. An editor that throws deleted elements away too "

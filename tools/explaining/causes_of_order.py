@@ -100,11 +100,11 @@ PRINT = {  # what tells a fault of what is sent from one of how it is applied
 }
 ODD_ONE = ("Replicas {others} show {one} before {two}. Replica {odd} alone shows them the other way round, first in {operation}: so look first at what it did in line {line}, when {came} came. {own}")
 MOVED_OR_TIED = ("Look at how a position is adjusted where a change arrives: the position of {element} was perhaps not adjusted for {changes}, which "
-             "replica {replica} knew and the author of {element} did not{back}. Or look at the order of concurrent inserts: {first} and {then} were inserted without knowing of each "
+             "replica {replica} knew and the author of {element} did not.{back} Or look at the order of concurrent inserts: {first} and {then} were inserted without knowing of each "
              "other, and were shown in two different orders. Use a rule that gives the same order everywhere (such as the replicas' numbers). Client and server must adjust in the same way, and each change only once.")
 EITHER = ("Look at the order of concurrent inserts: {first} and {then} were inserted at one place without knowing of each other, and were shown in two "
-          "different orders. Either the position of {element} was not adjusted for {changes}, which replica {replica} knew and the author of {element} did not{back}; "
-          "or the rule that orders them is not the same everywhere. Client and server must adjust in the same way, and each change only once.")
+          "different orders. Either the position of {element} was not adjusted for {changes}, which replica {replica} knew and the author of {element} did not; "
+          "or the rule that orders them is not the same everywhere.{back} Client and server must adjust in the same way, and each change only once.")
 REBASED = ("Replica {replica} inserted both {one} and {two} itself. If the editor takes back its own changes when changes of others arrive, and applies them again (rebasing), look at where that puts them.")
 LET_OUT = (" [{old}] arrived at replica {replica} together with others, with no list shown between (line {first} to line {last}): perhaps it had been held back, and was released then. Look at "
            "whether a released change does all that others do, such as advancing the clock.")
@@ -129,7 +129,8 @@ ONE_IS_WRONG = ("with a server or a relay, perhaps its acknowledgement of the re
                 "code that handles the acknowledgement{server}. Compare which changes each of them adjusts, whether each only once, and which of two inserts at one position it puts first.")
 TURNED_BY_ITSELF = ("Replica {replica} shows {two} before {one} in {before}, and {one} before {two} in {after}, though it received and changed nothing between. Something that is not "
                     "recorded did that: ")
-MOVED_INSERT = ("If the editor sends positions, the position of {element} was perhaps not adjusted for {changes}, which replica {replica} "
+AMONG_THESE = "Look first at the deletes among these: "
+MOVED_INSERT = ("If the editor sends positions, {begin}the position of {element} was perhaps not adjusted for {changes}, which replica {replica} "
                 "knew and the author of {element} did not.{back}")
 MOVED_BACK = " Or perhaps, when {delete} came to replica {replica} in line {line}, its position was not adjusted for {inserts}."
 
@@ -350,6 +351,7 @@ def of_refusal(evidence: Evidence, weak: bool) -> list:
     first_of_all = [*turned_by_itself(evidence), *lost(evidence)]
     if alone and evidence.kind == IDENTIFIERS:
         return [*first_of_all, *sorted_by, *alone]
+    moved = moved | {"begin": AMONG_THESE} if moved and own_then(evidence, evidence.met[0].receipt) and last.name == "seen" else moved
     return [*first_of_all, *alone, *turned, *hidden_order(evidence, later, old), *([last, *gone] if evidence.is_fine_beside_deleted or let_out(evidence, later, old) else [*gone, last]),
             *(turned_too(evidence, later, old) if last.name == "seen" else []), *sorted_by, *emptied(evidence), *moved_insert(moved)]
 
@@ -539,7 +541,7 @@ def place_of_both(first: Operation, then: Operation) -> str:
 
 def moved_insert(moved: dict) -> list:
     """Of an editor that sends positions alone; one with ids passes this over."""
-    return [Cause("positions", MOVED_INSERT.format(**moved))] if moved else []
+    return [Cause("positions", MOVED_INSERT.format(**{"begin": "", **moved}))] if moved else []
 
 
 def beside_deleted(evidence: Evidence, is_told_otherwise: bool = False) -> list:

@@ -199,8 +199,8 @@ def print_unequal(rows: list, asked: argparse.Namespace) -> None:
     if count:
         told = "counted as failures" if asked.unequal else "with --unequal these count as failures"
         of_those = "those that pass" if asked.weak else "those accepted"
-        print(f"{count} of {of_those} {'is' if count == 1 else 'are'} unequal: replicas end with different lists, or one "
-              f"lacks a change or a last list ({told})")
+        print(f"{count} of {of_those} {'is' if count == 1 else 'are'} unequal: replicas end with different lists, a change "
+              f"never arrived, or a replica was not read at the end ({told})")
 
 
 def print_in_common(rows: list, asked: argparse.Namespace) -> None:

@@ -333,7 +333,8 @@ def expected(evidence: Evidence, operation: Operation) -> str:
 def since(evidence: Evidence, operation: Operation, still: str = "as it should") -> str:
     """What came to the replica since its operation before, which is right: the program names the first fault."""
     before, receipts = evidence.before(operation)
-    arrived = [f"{receipt.seen.name} (line {receipt.line})" for receipt in receipts]
+    did_what = [f", {did_there(evidence, receipt.seen, operation.replica)}" if evidence.report["verdict"] == "contents" and receipt.seen.kind in ("ins", "del") else "" for receipt in receipts]
+    arrived = [f"{receipt.seen.name} (line {receipt.line}{what})" for receipt, what in zip(receipts, did_what)]
     more = f" and {len(arrived) - MOST_ARRIVED} more" if len(arrived) > MOST_ARRIVED else ""
     came = "received " + ", ".join(arrived[:MOST_ARRIVED]) + more if arrived else "received nothing"
     if not before:
@@ -343,21 +344,21 @@ def since(evidence: Evidence, operation: Operation, still: str = "as it should")
 
 
 def brought(evidence: Evidence, operation: Operation) -> list:
-    """The changes that came to the replica since its operation before, but for what came and was deleted, and which of them deletes what was deleted there."""
+    """The changes that must have come to the replica with what it received since its operation before, but for what came and was deleted."""
     before, receipts = evidence.before(operation)
     came = [change for change in evidence.recording.changes() if change.replica != operation.replica and operation.has_seen(change)
             and not (before and before[0].has_seen(change))] if receipts else []
     gone = {change.element for change in came if change.kind == "ins"} & {change.element for change in came if change.kind == "del"}
-    kept = [change for change in came if change.element not in gone]
-    told = [did_there(evidence, change, operation.replica) for change in kept[:MOST_ARRIVED]]
+    kept = [change for change in came if change.element not in gone and change not in [receipt.seen for receipt in receipts]]
+    told = [f"{change.name} (line {change.line}, {did_there(evidence, change, operation.replica)})" for change in kept[:MOST_ARRIVED]]
     more = f" and {len(kept) - MOST_ARRIVED} more" if len(kept) > MOST_ARRIVED else ""
-    return [f"new there by then, as the receipts say: {', '.join(told)}{more}"] if told else []
+    return [f"what {'their authors' if receipts[1:] else 'its author'} had should have come too: {', '.join(told)}{more}"] if told else []
 
 
 def did_there(evidence: Evidence, change: Operation, replica: int) -> str:
     arrival = evidence.recording.arrival(change, replica)
     gone = evidence.recording.change_at([one for one in evidence.recording.deletes[change.element] if one is not change], arrival) if change.kind == "del" and arrival else None
-    return f"{change.name} {'inserts' if change.kind == 'ins' else 'deletes'} {change.element}" + (f" (deleted there already, by {at(gone)})" if gone else "")
+    return f"{'inserts' if change.kind == 'ins' else 'deletes'} {change.element}" + (f", already deleted there by {gone.name}" if gone else "")
 
 
 def facts(evidence: Evidence, name: str, operation: Operation) -> list:
