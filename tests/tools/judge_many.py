@@ -775,7 +775,7 @@ def warnings(tally: Tally, program: str, folder: str) -> None:
     error, *warned = got.err.decode().splitlines()
     cut = f"the trace may have been cut at a line's end: it has 4 lines, and {folder}/lost.trace.lines says that 9 were saved"
     said = [line.partition(": warning: ") for line in warned]
-    begun = ("apart", "in the end "), ("apart", "replica 0 n"), ("apart", "replica 1 n")
+    begun = ("apart", "the last li"), ("apart", "replica 0 n"), ("apart", "replica 1 n")
     tally.check("warnings: on standard error, lost lines first", error == f"domepeeler-judge-many: {folder}/lost.trace: {cut}; the verdict on the lines "
                 "that are left is `contents 0.2`" and [(front, told[:11]) for front, _, told in said] == [
                     (f"domepeeler-judge-many: {folder}/{name}.trace", told) for name, told in begun] and got.status == 2, got)
@@ -1005,7 +1005,9 @@ def expected_warnings(text: str) -> dict:
     acting = {replica for replica, _ in operations}
     unheard = {(r, q) for r in acting for q in {author for author, _ in changes} if r != q and not any(author == q for author, _ in has[r])}
     lacked = {(r, f) for r in acting for f in changes if f[0] != r and f not in has[r] and (r, f[0]) not in unheard}
-    differ = len({frozenset(names) for r, names in shown.items() if not news[r]}) > 1
+    compared = {r for r in shown if not news[r]}
+    differ = len({frozenset(shown[r]) for r in compared}) > 1
+    is_apart = differ and any(r not in compared for r, _ in lacked)  # then it is said by itself
     deletes, past = [], []
     for number, line in enumerate(text.splitlines()[2:], 3):
         words = line.split()
@@ -1016,7 +1018,7 @@ def expected_warnings(text: str) -> dict:
     more = [len(told) - MOST_DELETES for told in (deletes, past) if len(told) > MOST_DELETES]
     idle = sorted(set(range(len(recording.streams))) - acting) if acting else []
     return {"nothing": [] if acting else [""], "idle": idle, "deleted": deletes[:MOST_DELETES], "past": past[:MOST_DELETES], "more": more,
-            "unheard": unheard, "ends": ["different"] if differ else ["lacking"] if lacked else [], "lacked": lacked,
+            "unheard": unheard, "ends": ["different"] * differ + ["lacking"] * (is_apart or not differ and bool(lacked)), "lacked": lacked,
             "unshown": {r for r in acting if news[r]}}
 
 
