@@ -2223,7 +2223,7 @@ def weak_junit(tally: Tally, program: str, folder: str) -> None:
         tally.check(f"weak: JUnit's passed case {more}", said == [("system-out", "weak holds, strong doesn't: this passes, as the weak list "
                     "specification alone is asked for; the verdict is `refused 3`\n")], said)
         first, = cases["unequal.trace"]
-        begins = "weak holds, strong doesn't: this passes" if not more else "weak holds, strong doesn't, but unequal in the end: in the end"
+        begins = "weak holds, strong doesn't: this passes" if not more else "weak holds, strong doesn't, but unequal in the end: the last lists"
         tally.check(f"weak: JUnit's unequal case {more}", first.tag == ("failure" if more else "system-out") and first.text.startswith(begins)
                     and "the last lists of replicas 0, 1 and 2 differ" in first.text, first.text)
         first, = cases["opposite.trace"]
