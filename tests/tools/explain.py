@@ -66,7 +66,7 @@ def stop(line: int, doing: str, *others: int, together: int = 0) -> str:
     stops = f"It stops when {line - 1} lines have been recorded."
     if together:
         both = f"{together} {'and' if together + 1 == line else 'to'} {line}"
-        stops = f"It stops when {line - 1} lines have been recorded, that is before line {line}, and when {together - 1} have, since one call may apply lines {both} together."
+        stops = f"It stops when {together - 1} and when {line - 1} lines have been recorded: one call may apply lines {both} together."
     asked = f"if recording.lines() in ({together - 1}, {line - 1}): breakpoint()" if together else asked
     where += f". {stops}"
     return f"|In a debugger|stop before line {line} of the trace, where {doing}.|In Python, put this code {where}|{asked}"
@@ -158,7 +158,7 @@ WORDS = [
      "x: inserted by 0.1 (line 3), deleted by 0.2 (line 8)|at 0.3 (line 11), x was deleted already, by 0.2 (line 8)|"
      "a was put before x. When it arrived at replica 0 in line 9, x was already deleted there by 0.2 (line 8)|"
      "b was put behind x. When it arrived at replica 0 in line 10, x was already deleted there by 0.2 (line 8)|"
-     "x arrived at replica 1 in line 4, x at replica 2 in line 5, a at replica 0 in line 9, b at replica 0 in line 10||"
+     "x arrived at replica 1 in line 4 and at replica 2 in line 5; a at replica 0 in line 9; b at replica 0 in line 10||"
      "Where to look|"
      "An editor whose server orders all changes, as Jupiter's does, promises only the weak list specification, which holds here. If yours is such an editor, nothing is wrong here: ask for the weak specification alone (in the tools by --weak).|"
      "Look at positions beside deleted elements: any two of 2.1, 0.3 and 1.1 fit together, but not all three; perhaps an insert lost its place "
@@ -229,7 +229,7 @@ WORDS = [
      "[b] before [a]: line 11, 0.3: replica 0 read the list, answered [b] [a]|"
      "[a] before [x]: line 6, 1.1: replica 1 inserted a at position 0, answered [a] [x]||The elements|"
      "x: inserted by 0.1 (line 3), deleted by 0.2 (line 8)|at 0.3 (line 11), x was deleted already, by 0.2 (line 8)|"
-     "x arrived at replica 1 in line 4, x at replica 2 in line 5, a at replica 0 in line 9, b at replica 0 in line 10||"
+     "x arrived at replica 1 in line 4 and at replica 2 in line 5; a at replica 0 in line 9; b at replica 0 in line 10||"
      "Where to look|"
      "Look at positions beside deleted elements: any two of 2.1, 0.3 and 1.1 fit together, but not all three; perhaps an insert lost its place "
      "because its neighbour was deleted meanwhile. Look first at where replica 0 placed b in line 10: it belongs beside x, which had been deleted there.|"
@@ -260,7 +260,7 @@ WORDS = [
     ("an element that came along with what had seen it", 3, "0 ins a 0 : a|1 recv 0 1|1 read : a|1 ins b 1 : a b|2 recv 1 1|2 recv 1 2|"
      "2 recv 0 1|2 read : b a",
      "[b] before [a]: line 10, 2.1: replica 2 read the list, answered [b] [a]|b: inserted by 1.2 (line 6)|"
-     "a arrived at replica 1 in line 4, a at replica 2 in line 7, b at replica 2 in line 8"),
+     "a arrived at replica 1 in line 4 and at replica 2 in line 7; b at replica 2 in line 8"),
     ("one element that arrived", 2, "0 ins a 0 : a|1 recv 0 1|1 ins b 0 : b a|1 read : a b",
      "[a] before [b]: line 6 of the trace, 1.2: replica 1 read the list, answered [a] [b]|a: inserted by 0.1 (line 3)|"
      "b: inserted by 1.1 (line 5)|a arrived at replica 1 in line 4||Where to look" + stop(4, "replica 1 applies 0.1")),
@@ -270,7 +270,7 @@ WORDS = [
      "0 ins a 0 : a|1 recv 0 1|1 ins b 1 : a b|2 recv 1 1|2 read : b",
      "contents 2.1: this response lacks one element that replica 2 should have had by then.|"
      "line 7 of the trace, 2.1: replica 2 read the list|answered: b|it should hold, in any order: b [a]|"
-     "before it: replica 2 did nothing, and received 1.1 (line 6, inserts b)|what its author had should have come too: 0.1 (line 3, inserts a)|Missing|"
+     "before it: replica 2 did nothing, and received 1.1 (line 6, inserts b)|the author of 1.1 had 0.1 (line 3, inserts a): so that should be at replica 2 too|Missing|"
      "[a] inserted by 0.1 (line 3), which arrived at replica 1 in line 4 (1 recv 0 1). "
      "Replica 2 should have had it since line 6 (2 recv 1 1): the author of 1.1 had it, so 1.1 must not arrive before it|[a] 0.1 has no receipt of its own at replica 2, though the author of 1.1 had it. So "
      "either the message of line 6 carried 0.1 too, or 1.1 came before 0.1, which is not causal order|[a] is never deleted||Where to look|"
@@ -367,7 +367,7 @@ WORDS = [
     ("a second delete of one element takes its neighbour", 2, "0 ins a 0 : a|0 ins b 1 : a b|1 recv 0 2|1 read : a b|0 del a : b|1 del a : b|"
      "1 recv 0 3|1 read :",
      "contents 1.3: this response lacks one element that replica 1 should have had by then.|answered: (nothing)|"
-     "it should hold, in any order: [b]|before it: replica 1's 1.2 (line 8) answered [b], as it should; since then it received 0.3 (line 9, deletes a, already deleted there by 1.2)|"
+     "it should hold, in any order: [b]|before it: replica 1's 1.2 (line 8) answered [b], as it should; since then it received 0.3 (line 9, deletes a, already deleted at replica 1 by 1.2)|"
      "Missing|[b] inserted by 0.2 (line 4), which arrived at replica 1 in line 5 (1 recv 0 2)|"
      "[b] was put behind a. When it arrived at replica 1 in line 5, a was still there|[b] is never deleted||"
      "Where to look|"
@@ -1222,7 +1222,7 @@ def places(tally: Tally, program: str, folder: str) -> None:
     for name, wanted in FOR_TWO.items():
         got = explain(program, ["--language", name, "-"], text_of(2, "0 ins a 0 : a|0 ins b 1 : a b|1 recv 0 1|1 recv 0 2|1 read : a").encode()).out.decode()
         tally.check(f"a debugger: {name}, receipts that stand together", paragraph(got, "In a debugger").endswith(
-            f". It stops when 5 lines have been recorded, that is before line 6, and when 4 have, since one call may apply lines 5 and 6 together.\n    {wanted}"), got)
+            f". It stops when 4 and when 5 lines have been recorded: one call may apply lines 5 and 6 together.\n    {wanted}"), got)
     undelivered(tally, program, folder)
     path.write_text(text_of(2, PLACED))
     for beside, wanted in NOTES:
@@ -1896,8 +1896,8 @@ def first_told(tally: Tally, program: str, folder: str) -> None:
         does = {"an insert": "the insert of d does", "a delete": "the delete of a does", "several": "each of these changes does"}[what]
         words = (f"{begins}, which was deleted at replica 1 before, by 0.4 (line 8), and not shown in 1.3 (line 11). Look at what {does} there to the elements beside it: is a run (block) of them split, or made "
                  "anew, without the mark that they are deleted?")
-        came = {"an insert": "2.2 (line 15, inserts d)\n\n", "a delete": "2.2 (line 15, deletes a, already deleted there by 1.3)\n\n",
-                "several": "2.3 (line 16, inserts d)\n  what its author had should have come too: 2.2 (line 14, deletes a, already deleted there by 1.3)\n"}[what]
+        came = {"an insert": "2.2 (line 15, inserts d)\n\n", "a delete": "2.2 (line 15, deletes a, already deleted at replica 1 by 1.3)\n\n",
+                "several": "2.3 (line 16, inserts d)\n  the author of 2.3 had 2.2 (line 14, deletes a, already deleted at replica 1 by 1.3): so that should be at replica 1 too\n"}[what]
         for kind in "", "neighbours", "positions":
             told = explain(program, [*(["--editor", kind] if kind else []), str(path)]).out.decode()
             tally.check(f"first told: {kind}: what another had deleted came back, by {what}", (words in told) == (kind != "positions") and (

@@ -129,7 +129,7 @@ ONE_IS_WRONG = ("with a server or a relay, perhaps its acknowledgement of the re
                 "code that handles the acknowledgement{server}. Compare which changes each of them adjusts, whether each only once, and which of two inserts at one position it puts first.")
 TURNED_BY_ITSELF = ("Replica {replica} shows {two} before {one} in {before}, and {one} before {two} in {after}, though it received and changed nothing between. Something that is not "
                     "recorded did that: ")
-AMONG_THESE = "Look first at the deletes among these: "
+AMONG_THESE = "Of the changes of replica {replica}, look first at the deletes: "
 MOVED_INSERT = ("If the editor sends positions, {begin}the position of {element} was perhaps not adjusted for {changes}, which replica {replica} "
                 "knew and the author of {element} did not.{back}")
 MOVED_BACK = " Or perhaps, when {delete} came to replica {replica} in line {line}, its position was not adjusted for {inserts}."
@@ -351,7 +351,7 @@ def of_refusal(evidence: Evidence, weak: bool) -> list:
     first_of_all = [*turned_by_itself(evidence), *lost(evidence)]
     if alone and evidence.kind == IDENTIFIERS:
         return [*first_of_all, *sorted_by, *alone]
-    moved = moved | {"begin": AMONG_THESE} if moved and own_then(evidence, evidence.met[0].receipt) and last.name == "seen" else moved
+    moved = moved | {"begin": AMONG_THESE.format(replica=moved["replica"])} if moved and own_then(evidence, evidence.met[0].receipt) and last.name == "seen" else moved
     return [*first_of_all, *alone, *turned, *hidden_order(evidence, later, old), *([last, *gone] if evidence.is_fine_beside_deleted or let_out(evidence, later, old) else [*gone, last]),
             *(turned_too(evidence, later, old) if last.name == "seen" else []), *sorted_by, *emptied(evidence), *moved_insert(moved)]
 

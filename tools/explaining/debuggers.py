@@ -145,7 +145,7 @@ def statement(recording: Recording, entry: Operation | Receipt, language: str) -
     then, asked = f"It stops when {entry.line - 1} lines have been recorded.", words.format(entry.line - 1)
     if first < entry.line:
         together = f"{first} {'and' if first + 1 == entry.line else 'to'} {entry.line}"
-        then = f"It stops when {entry.line - 1} lines have been recorded, that is before line {entry.line}, and when {first - 1} have, since one call may apply lines {together} together."
+        then = f"It stops when {first - 1} and when {entry.line - 1} lines have been recorded: one call may apply lines {together} together."
         asked = FOR_TWO[language].format(first - 1, entry.line - 1)
     return [f"In {name}, put this code {READS if is_read else BEGINS}. {then}", f"  {asked}"]
 

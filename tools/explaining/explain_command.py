@@ -132,8 +132,8 @@ def write_small(path: str, evidence: Evidence, told: Evidence, program: str, kno
     placed = [f"{number} {known.places[line]}" for number, line in enumerate(small.lines, FIRST_ENTRY) if line in known.places]
     if os.path.isfile(path):  # a pipe or a device has no file beside it
         write(path + SIDE, "".join(f"{line}\n" for line in [len(lines), SMALL_MARK.decode(), *known.marks(small.lines), *placed]))
-    print(f"\n{shown(path)} {same_as(evidence, told, len(lines))} It keeps only what the verdict needs. To go "
-          "wrong, your editor may need other steps too, so repeating these alone may not show the bug. Its operations, and what each is in the whole trace:")
+    print(f"\n{shown(path)} {same_as(evidence, told, len(lines))} It keeps only what the verdict needs. Your "
+          "editor may need other steps too before it goes wrong, so repeating these alone may not show the bug. Its operations, and what each is in the whole trace:")
     made = Recording(small.text)
     named = [f"small {name} = whole {operation.name} (line {operation.line}{f'; {WHAT[operation.kind]} there, a read here' if made.operation(name).kind != operation.kind else ''})" for name, operation in small.operations]
     print("  " + "; ".join(named[:MOST_TOLD]) + (f"; and {len(named) - MOST_TOLD} more" if len(named) > MOST_TOLD else ""))

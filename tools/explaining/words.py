@@ -276,9 +276,11 @@ def beside(insert: Operation, names: list) -> str:
 
 def where_arrived(evidence: Evidence) -> list:
     """The moments at which the order may have gone wrong, which a response shows only later: where elements of others arrived."""
-    told = [f"{insert.element}{' arrived' * (place == 0)} at replica {receipt.replica} in line {receipt.line}"
-            for place, (receipt, insert) in enumerate(evidence.arrivals)]
-    return [", ".join(told)] if told else []
+    places = {}
+    for receipt, insert in evidence.arrivals:
+        places.setdefault(insert.element, []).append(f"at replica {receipt.replica} in line {receipt.line}")
+    told = [f"{element}{' arrived' * (place == 0)} {joined(where)}" for place, (element, where) in enumerate(places.items())]
+    return [("; " if any(where[1:] for where in places.values()) else ", ").join(told)] if told else []
 
 
 def doubled(evidence: Evidence) -> tuple:
@@ -351,14 +353,16 @@ def brought(evidence: Evidence, operation: Operation) -> list:
     gone = {change.element for change in came if change.kind == "ins"} & {change.element for change in came if change.kind == "del"}
     kept = [change for change in came if change.element not in gone and change not in [receipt.seen for receipt in receipts]]
     told = [f"{change.name} (line {change.line}, {did_there(evidence, change, operation.replica)})" for change in kept[:MOST_ARRIVED]]
-    more = f" and {len(kept) - MOST_ARRIVED} more" if len(kept) > MOST_ARRIVED else ""
-    return [f"what {'their authors' if receipts[1:] else 'its author'} had should have come too: {', '.join(told)}{more}"] if told else []
+    more = [f"{len(kept) - MOST_ARRIVED} more"] if len(kept) > MOST_ARRIVED else []
+    by = list(dict.fromkeys(next(receipt.seen.name for receipt in receipts if receipt.seen.has_seen(change)) for change in kept[:MOST_ARRIVED]))
+    which = f"the author{'s' if by[1:] else ''} of {joined(by)} had {joined(told + more)}"
+    return [f"{which}: so {'these' if kept[1:] else 'that'} should be at replica {operation.replica} too"] if told else []
 
 
 def did_there(evidence: Evidence, change: Operation, replica: int) -> str:
     arrival = evidence.recording.arrival(change, replica)
     gone = evidence.recording.change_at([one for one in evidence.recording.deletes[change.element] if one is not change], arrival) if change.kind == "del" and arrival else None
-    return f"{'inserts' if change.kind == 'ins' else 'deletes'} {change.element}" + (f", already deleted there by {gone.name}" if gone else "")
+    return f"{'inserts' if change.kind == 'ins' else 'deletes'} {change.element}" + (f", already deleted at replica {replica} by {gone.name}" if gone else "")
 
 
 def facts(evidence: Evidence, name: str, operation: Operation) -> list:
@@ -449,8 +453,8 @@ def not_arrived(recording: Recording, seen: Operation, operation: Operation) -> 
     late = recording.arrival(seen, operation.replica)
     if late is None:
         return f", and replica {operation.replica} has no receipt of it"
-    too = "" if late.seen is seen else f". That receipt counts for {seen.name} too, since the author of {late.seen.name} had it"
-    return f". Replica {operation.replica} got {seen.name} only after this response, in line {late.line} ({late.text}){too}"
+    came = "" if late.seen is seen else f" {late.seen.name} arrived, whose author had {seen.name}"
+    return f". Replica {operation.replica} got {seen.name} only after this response{':' if came else ','} in line {late.line} ({late.text}){came}"
 
 
 def position(evidence: Evidence) -> tuple:
