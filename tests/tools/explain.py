@@ -65,8 +65,8 @@ def stop(line: int, doing: str, *others: int, together: int = 0) -> str:
     where = "right before the call that reads the list" if "reads the list" in doing else "right before the call that makes the editor apply a change, local or remote"
     stops = f"It stops when {line - 1} lines have been recorded."
     if together:
-        both = f"{together} {'and' if together + 1 == line else 'to'} {line}"
-        stops = f"It stops when {together - 1} and when {line - 1} lines have been recorded: one call may apply lines {both} together."
+        both = "both" if together + 1 == line else f"lines {together} to {line}"
+        stops = f"It stops before line {together} and before line {line} ({together - 1} and {line - 1} recorded lines), in case one call applies {both}."
     asked = f"if recording.lines() in ({together - 1}, {line - 1}): breakpoint()" if together else asked
     where += f". {stops}"
     return f"|In a debugger|stop before line {line} of the trace, where {doing}.|In Python, put this code {where}|{asked}"
@@ -89,7 +89,7 @@ WORDS = [
      "a: inserted by 0.1 (line 3)|b: inserted by 1.1 (line 4)|"
      "b arrived at replica 0 in line 5, a at replica 1 in line 6|"
      "Look at the order of concurrent inserts: a and b were inserted at the front without knowing of each other, and were shown in two different orders. "
-     "Use a rule that gives the same order everywhere (such as the replicas' numbers), never the order of arrival; a faster path, as for appending, must use this rule too.|"
+     "Use a rule that gives the same order everywhere (such as the replicas' numbers), never the order of arrival. A shortcut, such as for appending, must use this rule too.|"
      "If the list is sorted by position identifiers, look at those of a and b: are the two equal, does one differ between replicas, are numbers compared as text, or is one of them not between the identifiers of its neighbours?" + stop(6, "replica 1 applies 0.1", 5)),
     ("a replica that turns two elements round when it deletes another", 2, "0 ins a 0 : a|1 ins b 0 : b|1 recv 0 1|1 read : a b|1 ins c 2 : a b c|1 del c : b a",
      "[b] before [a]: line 8, 1.4: replica 1 deleted c, answered [b] [a]|Where to look|"
@@ -181,14 +181,14 @@ WORDS = [
      "[b] was put directly behind [a]. The author of [c] knew neither, and 1.2 (line 7) shows [c] between the two. If inserts find their place by a "
      "neighbour, look at how [c] found its place there: a search that goes past [a] must also go past all that was put behind [a]; in a list that is kept in blocks it must not stop at a block's end.|"
      "Look at the order of concurrent inserts: b and c were inserted without knowing of each other, and were shown in two different orders. Use a rule that "
-     "gives the same order everywhere (such as the replicas' numbers), never the order of arrival; a faster path, as for appending, must use this rule too."),
+     "gives the same order everywhere (such as the replicas' numbers), never the order of arrival. A shortcut, such as for appending, must use this rule too."),
     ("an insert behind what the other author did not know, which is deleted", 2, "0 ins a 0 : a|0 ins b 1 : a b|0 del a : b|1 ins c 0 : c|1 recv 0 3|"
      "1 read : c b|0 recv 1 1|0 read : b c", "Where to look|"
      "[b] was put directly behind [a], which the author of [c] did not know. If inserts find their place by a neighbour, look at how [c] found its "
      "place: a search that goes past [a] must also go past all that was put behind [a]; in a list that is kept in blocks it must not stop at a block's end. Look also at inserts beside "
      "deleted elements: where [a] was thrown away as deleted, nothing says where [b] belongs.|"
      "Look at the order of concurrent inserts: b and c were inserted without knowing of each other, and were shown in two different orders. Use a rule that "
-     "gives the same order everywhere (such as the replicas' numbers), never the order of arrival; a faster path, as for appending, must use this rule too."),
+     "gives the same order everywhere (such as the replicas' numbers), never the order of arrival. A shortcut, such as for appending, must use this rule too."),
     ("an insert between two that are deleted by others", 3, "0 ins a 0 : a|0 ins b 1 : a b|1 recv 0 2|2 recv 0 2|2 ins c 1 : a c b|1 del a : b|"
      "0 del b : a|1 recv 0 3|1 read :|1 ins d 0 : d|1 recv 2 1|1 read : c d|2 recv 1 3|2 read : d c",
      "[d] before [c]: line 16 of the trace, 2.2: replica 2 read the list, answered [d] [c]|"
@@ -270,7 +270,7 @@ WORDS = [
      "0 ins a 0 : a|1 recv 0 1|1 ins b 1 : a b|2 recv 1 1|2 read : b",
      "contents 2.1: this response lacks one element that replica 2 should have had by then.|"
      "line 7 of the trace, 2.1: replica 2 read the list|answered: b|it should hold, in any order: b [a]|"
-     "before it: replica 2 did nothing, and received 1.1 (line 6, inserts b)|the author of 1.1 had 0.1 (line 3, inserts a): so that should be at replica 2 too|Missing|"
+     "before it: replica 2 did nothing, and received 1.1 (line 6, inserts b)|Missing|"
      "[a] inserted by 0.1 (line 3), which arrived at replica 1 in line 4 (1 recv 0 1). "
      "Replica 2 should have had it since line 6 (2 recv 1 1): the author of 1.1 had it, so 1.1 must not arrive before it|[a] 0.1 has no receipt of its own at replica 2, though the author of 1.1 had it. So "
      "either the message of line 6 carried 0.1 too, or 1.1 came before 0.1, which is not causal order|[a] is never deleted||Where to look|"
@@ -289,7 +289,7 @@ WORDS = [
      "answered: (nothing)|it should hold, in any order: [a]|"
      "before it: replica 0's 0.1 (line 3) answered [a], as it should; since then it received nothing|"
      "[a] inserted by 0.1 (line 3), an earlier operation of replica 0|"
-     "[a] deleted by 1.1 (line 5). Replica 0 got 1.1 only after this response, in line 7 (0 recv 1 1)" + stop(6, "replica 0 reads the list")),
+     "[a] deleted by 1.1 (line 5), which replica 0 got only after this response, in line 7 (0 recv 1 1)" + stop(6, "replica 0 reads the list")),
     ("a deleted element shown", 2, "0 ins a 0 : a|0 del a :|1 recv 0 2|1 read : a",
      "contents 1.1: this response has one element that should not be there.|"
      "answered: [a]|it should hold, in any order: (nothing)|Extra|"
@@ -410,7 +410,7 @@ WORDS = [
      "Look first at whether 0.2 (line 4) was lost on its way to replica 1, or overtaken: no receipt there names it, though all other changes of "
      "replica 0 have one. In an editor that sends positions, later changes then land in the wrong place.|"
      "Look at the order of concurrent inserts: c and y were inserted directly behind a without knowing of each other, and were shown in two different orders. Use a "
-     "rule that gives the same order everywhere (such as the replicas' numbers), never the order of arrival; a faster path, as for appending, must use this rule too."
+     "rule that gives the same order everywhere (such as the replicas' numbers), never the order of arrival. A shortcut, such as for appending, must use this rule too."
      + stop(4, "replica 0 inserts b, and follow 0.2 to replica 1")),
     ("a delete that meets an insert and a delete which did not know each other", 2, "0 ins a 0 : a|0 ins b 1 : a b|0 ins c 2 : a b c|1 recv 0 3|"
      "1 read : a b c|0 del a : b c|1 ins d 3 : a b c d|0 recv 1 2|0 read : b c d|1 del c : a b d|0 recv 1 3|0 read : b c",
@@ -1222,7 +1222,7 @@ def places(tally: Tally, program: str, folder: str) -> None:
     for name, wanted in FOR_TWO.items():
         got = explain(program, ["--language", name, "-"], text_of(2, "0 ins a 0 : a|0 ins b 1 : a b|1 recv 0 1|1 recv 0 2|1 read : a").encode()).out.decode()
         tally.check(f"a debugger: {name}, receipts that stand together", paragraph(got, "In a debugger").endswith(
-            f". It stops when 4 and when 5 lines have been recorded: one call may apply lines 5 and 6 together.\n    {wanted}"), got)
+            f". It stops before line 5 and before line 6 (4 and 5 recorded lines), in case one call applies both.\n    {wanted}"), got)
     undelivered(tally, program, folder)
     path.write_text(text_of(2, PLACED))
     for beside, wanted in NOTES:
@@ -1773,7 +1773,7 @@ FIRST_TOLD = {
         "[l] was put directly behind n (0.1 (line 3)), and n and [o] were inserted at the front without knowing of each other. n is deleted at replica 0, which never showed n and [o] together: perhaps it still keeps n, but on the other side of [o] than replica 2 has it. Then "
         "[l], put rightly beside n, stands there too. So look first at where these concurrent inserts were put when they arrived: n in line 5 (replica 2), o in line 6 (replica 2) and o in line 10 (replica 0)."),
     "one replica alone in its order": ("positions", 3, "2 ins a 0 : a|2 ins b 0 : b a|1 ins c 0 : c|2 recv 1 1|2 read : b c a|0 recv 1 1|0 recv 2 1|0 read : a c|1 recv 2 1|1 read : a c",
-        "Replicas 0 and 1 show a before c. Replica 2 alone shows them the other way round, first in 2.3 (line 7): so look first at what it did in line 6, when 1.1 came. When 1.1 arrived, replica 2 had two changes of its own that the author of 1.1 did not know yet: the insert of a by 2.1 (line 3) and the insert of b by 2.2 (line 4). Adjust 1.1 for each of these, one after another; and adjust each of these for 1.1. Changes that still wait to be sent count too."),
+        "Replicas 0 and 1 show a before c. Replica 2 alone shows them the other way round, first in 2.3 (line 7): so look first at what it did in line 6, when 1.1 came. When 1.1 arrived, replica 2 had two changes of its own that the author of 1.1 did not know yet: the insert of a by 2.1 (line 3) and the insert of b by 2.2 (line 4). Adjust 1.1 for each of these, one after another; and adjust each of these for 1.1. Do so also for its changes that still wait to be sent."),
     "one replica alone, with one change on its way": ("positions", 3, "2 ins a 0 : a|1 ins c 0 : c|2 recv 1 1|2 read : c a|0 recv 1 1|0 recv 2 1|0 read : a c|1 recv 2 1|1 read : a c",
         "Replicas 0 and 1 show a before c. Replica 2 alone shows them the other way round, first in 2.2 (line 6): so look first at what it did in line 5, when 1.1 came. When 1.1 arrived, replica 2 had one change of its own that the author of 1.1 did not know yet, the insert of a by 2.1 (line 3): this and 1.1 must each be adjusted for the other."),
     "an order that its author knew, with one change on its way": ("positions", 2, "0 ins a 0 : a|1 recv 0 1|1 read : a|1 ins c 1 : a c|0 ins b 0 : b a|1 recv 0 2|1 read : a b c",
@@ -1897,7 +1897,7 @@ def first_told(tally: Tally, program: str, folder: str) -> None:
         words = (f"{begins}, which was deleted at replica 1 before, by 0.4 (line 8), and not shown in 1.3 (line 11). Look at what {does} there to the elements beside it: is a run (block) of them split, or made "
                  "anew, without the mark that they are deleted?")
         came = {"an insert": "2.2 (line 15, inserts d)\n\n", "a delete": "2.2 (line 15, deletes a, already deleted at replica 1 by 1.3)\n\n",
-                "several": "2.3 (line 16, inserts d)\n  the author of 2.3 had 2.2 (line 14, deletes a, already deleted at replica 1 by 1.3): so that should be at replica 1 too\n"}[what]
+                "several": "2.3 (line 16, inserts d)\n\n"}[what]
         for kind in "", "neighbours", "positions":
             told = explain(program, [*(["--editor", kind] if kind else []), str(path)]).out.decode()
             tally.check(f"first told: {kind}: what another had deleted came back, by {what}", (words in told) == (kind != "positions") and (

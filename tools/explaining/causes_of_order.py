@@ -84,7 +84,7 @@ BEHIND_UNKNOWN = "[{element}] was put directly behind [{behind}], which the auth
 BEHIND_DELETED = " Look also at inserts beside deleted elements: where [{behind}] was thrown away as deleted, nothing says where [{element}] belongs."
 CONCURRENT = ("Look at the order of concurrent inserts: {first} and {then} were inserted{place} without knowing of each other, and were shown "
               "in two different orders.{rule}{print}")
-RULE = (" Use a rule that gives the same order everywhere (such as the replicas' numbers), never the order of arrival; a faster path, as for appending, must use this rule too.")
+RULE = (" Use a rule that gives the same order everywhere (such as the replicas' numbers), never the order of arrival. A shortcut, such as for appending, must use this rule too.")
 RULES = {"": RULE, NEIGHBOURS: RULE, IDENTIFIERS: "",
          POSITIONS: " At an equal position the same one must come first on each client, and on the server if it adjusts positions: look at which one your code puts first, for arriving changes and "
                     "for the replica's own ones that are still on their way.",

@@ -144,8 +144,8 @@ def statement(recording: Recording, entry: Operation | Receipt, language: str) -
     first = first_together(recording, entry)
     then, asked = f"It stops when {entry.line - 1} lines have been recorded.", words.format(entry.line - 1)
     if first < entry.line:
-        together = f"{first} {'and' if first + 1 == entry.line else 'to'} {entry.line}"
-        then = f"It stops when {first - 1} and when {entry.line - 1} lines have been recorded: one call may apply lines {together} together."
+        together = "both" if first + 1 == entry.line else f"lines {first} to {entry.line}"
+        then = f"It stops before line {first} and before line {entry.line} ({first - 1} and {entry.line - 1} recorded lines), in case one call applies {together}."
         asked = FOR_TWO[language].format(first - 1, entry.line - 1)
     return [f"In {name}, put this code {READS if is_read else BEGINS}. {then}", f"  {asked}"]
 

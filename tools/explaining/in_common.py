@@ -209,7 +209,7 @@ def standing_out(failing: list, passing: list) -> list:
             found.append(Telling(weight(count / len(failing), others, len(passing)), name, count, False, f"; {others or 'none'} of the {len(passing)} that pass {'have' if others > 1 else 'has'} it{' too' if others else ''}"))
         count, others = sum(name in session.last for session in failing), sum(name in one for one in lists)
         if len(lists) >= FEWEST_LISTS and count >= MANY_LISTS * len(failing):
-            right = f", and just before {others} of the {len(lists)} correct lists of all {len(failing) + len(passing)} sessions ({round(100 * others / len(lists))} %)"
+            right = f" and just before {others} of the {len(lists)} correct ones ({round(100 * others / len(lists))} %)"
             found.append(Telling(weight(count / len(failing), others, len(lists)), name, count, True, right))
     least = max(TELLING, -log(BY_CHANCE) / len(failing))
     general = set().union(*GENERAL.values())
@@ -237,8 +237,8 @@ def in_common(rows: list) -> list:
     passing, lines = sessions(right, False), []
     for one in standing_out(failing, passing):
         which = f"all {one.count}" if one.count == len(failing) else f"{one.count} of the {len(failing)}"
-        which += f" ({round(100 * one.count / len(failing))} %)" if one.is_right_before else ""
-        lines.append(f"  {IN_WORDS[one.name]}: this came {'just ' if one.is_right_before else ''}before the wrong list in {which}{one.others}")
+        where = f"just before {which} wrong lists ({round(100 * one.count / len(failing))} %)" if one.is_right_before else f"before the wrong list in {which}"
+        lines.append(f"  {IN_WORDS[one.name]}: this came {where}{one.others}")
     without = unneeded(failing) if lines else []
     lines += [f"  Up to where they fail, {joined(without)}: so the bug does not need these."] if without else []
     first = min(wrong, key=lambda row: (row.fails_at, row.lines, row.file))

@@ -296,7 +296,6 @@ def contents(evidence: Evidence) -> tuple:
         f"answered: {answer(evidence, operation)}",
         expected(evidence, operation),
         since(evidence, operation),
-        *brought(evidence, operation),
     ])]
     for title, names in ("Missing", evidence.missing), ("Extra", evidence.surplus), ("Named more than once", evidence.repeated):
         if names:
@@ -343,20 +342,6 @@ def since(evidence: Evidence, operation: Operation, still: str = "as it should")
         return f"before it: replica {operation.replica} did nothing, and {came}"
     list_before = marked(before[0].response, set(evidence.elements) if evidence.report["verdict"] == "contents" else set())
     return f"before it: replica {operation.replica}'s {at(before[0])} answered {list_before}, {still}; since then it {came}"
-
-
-def brought(evidence: Evidence, operation: Operation) -> list:
-    """The changes that must have come to the replica with what it received since its operation before, but for what came and was deleted."""
-    before, receipts = evidence.before(operation)
-    came = [change for change in evidence.recording.changes() if change.replica != operation.replica and operation.has_seen(change)
-            and not (before and before[0].has_seen(change))] if receipts else []
-    gone = {change.element for change in came if change.kind == "ins"} & {change.element for change in came if change.kind == "del"}
-    kept = [change for change in came if change.element not in gone and change not in [receipt.seen for receipt in receipts]]
-    told = [f"{change.name} (line {change.line}, {did_there(evidence, change, operation.replica)})" for change in kept[:MOST_ARRIVED]]
-    more = [f"{len(kept) - MOST_ARRIVED} more"] if len(kept) > MOST_ARRIVED else []
-    by = list(dict.fromkeys(next(receipt.seen.name for receipt in receipts if receipt.seen.has_seen(change)) for change in kept[:MOST_ARRIVED]))
-    which = f"the author{'s' if by[1:] else ''} of {joined(by)} had {joined(told + more)}"
-    return [f"{which}: so {'these' if kept[1:] else 'that'} should be at replica {operation.replica} too"] if told else []
 
 
 def did_there(evidence: Evidence, change: Operation, replica: int) -> str:
@@ -453,8 +438,7 @@ def not_arrived(recording: Recording, seen: Operation, operation: Operation) -> 
     late = recording.arrival(seen, operation.replica)
     if late is None:
         return f", and replica {operation.replica} has no receipt of it"
-    came = "" if late.seen is seen else f" {late.seen.name} arrived, whose author had {seen.name}"
-    return f". Replica {operation.replica} got {seen.name} only after this response{':' if came else ','} in line {late.line} ({late.text}){came}"
+    return f", which replica {operation.replica} got only after this response" + (f", in line {late.line} ({late.text})" if late.seen is seen else "")
 
 
 def position(evidence: Evidence) -> tuple:
