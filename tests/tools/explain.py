@@ -123,7 +123,8 @@ WORDS = [
      "deleted. If replicas throw deleted elements away, nothing says then where the insert belongs; if they keep them, the search for its place must treat them like elements that are shown.|"
      "If the list is sorted by position identifiers, print those of r, s and z at line 22. They must rise in this order. If they do not, look at how the identifier of s was made; if they do, at how "
      "identifiers are compared (numbers must not be compared as text).|If the editor sends positions, the position of s was perhaps not adjusted for the delete of a by 1.2 (line 9), the delete of b "
-     "by 1.4 (line 13), the delete of c by 1.6 (line 17) and the delete of r by 1.8 (line 21), which replica 1 knew and the author of s did not." + stop(23, "replica 1 applies 0.8", 7)),
+     "by 1.4 (line 13), the delete of c by 1.6 (line 17) and the delete of r by 1.8 (line 21), which replica 1 knew and the author of s did not. "
+     "Or perhaps 1.2, still on its way, was not adjusted for the insert of p by 0.5 (line 10), the insert of q by 0.6 (line 14) and the insert of r by 0.7 (line 18), which came to replica 1 meanwhile." + stop(23, "replica 1 applies 0.8", 7)),
     ("a local delete whose change names another element than the one that is gone", 2, "0 ins a 0 : a|1 recv 0 1|1 ins b 1 : a b|1 del a : b|1 del c :",
      "Where to look|1.3 (line 7) deletes c; but c does not stand in 1.2 (line 6) and no line inserts it, while b is gone. Look at which ids a local delete puts into "
      "the change that it sends: where it deletes several, each element has an id of its own, and these need not be consecutive." + stop(7, "replica 1 deletes c", together=6)),
@@ -634,7 +635,7 @@ PLANTED = {
     "clock": (300, 20, ["decides by numbers (a clock, ids) which of two inserts", "the clock that decides between inserts"]),
     "mapping": (150, 40, ["perhaps not adjusted for the delete", "perhaps not adjusted for the insert"]),
     "unmoved": (80, 40, [" was perhaps not adjusted for", "was not adjusted for an insert", "was not adjusted for the insert"]),
-    "behind": (80, 40, ["order of concurrent inserts", " concurrently: check also that "]),
+    "behind": (80, 40, ["order of concurrent inserts", " concurrently: check also that ", "which were inserted at one place concurrently"]),
     "twice": (500, 10, ["was already deleted there, by"]),
     "overtaking": (100, 50, ["overtook it in line"]),
     "none": (60, 0, []),

@@ -132,7 +132,8 @@ TURNED_BY_ITSELF = ("Replica {replica} shows {two} before {one} in {before}, and
 AMONG_THESE = "Of the changes of replica {replica}, look first at the deletes: "
 MOVED_INSERT = ("If the editor sends positions, {begin}the position of {element} was perhaps not adjusted for {changes}, which replica {replica} "
                 "knew and the author of {element} did not.{back}")
-MOVED_BACK = " Or perhaps, when {delete} came to replica {replica} in line {line}, its position was not adjusted for {inserts}."
+MOVED_BACK = {True: " Or perhaps {delete}, still on its way, was not adjusted for {inserts}, which came to replica {replica} meanwhile.",
+              False: " Or perhaps, when {delete} came to replica {replica} in line {line}, its position was not adjusted for {inserts}."}
 
 
 def of_position(evidence: Evidence) -> list:
@@ -604,7 +605,8 @@ def moved_over(evidence: Evidence) -> dict:
     if not unknown:
         return {}
     replica = arrival.receipt.replica
-    came = [(delete, evidence.recording.arrival(delete, replica)) for delete in unknown if delete.replica != replica]
+    came = [(delete, arrival.receipt if delete.replica == replica else evidence.recording.arrival(delete, replica)) for delete in unknown]
     met = [(delete, receipt, met_inserts(evidence.recording, delete, Arrival(receipt, arrival.insert))) for delete, receipt in came]
-    back = "".join(MOVED_BACK.format(delete=delete.name, replica=replica, line=receipt.line, inserts=named(inserts)) for delete, receipt, inserts in [one for one in met if one[2]][:1])
+    back = "".join(MOVED_BACK[delete.replica == replica].format(delete=delete.name, replica=replica, line=receipt.line, inserts=named(inserts))
+                   for delete, receipt, inserts in [one for one in met if one[2]][:1])
     return {"element": arrival.insert.element, "changes": named(unknown), "replica": arrival.receipt.replica, "back": back}
