@@ -334,10 +334,11 @@ def expected(evidence: Evidence, operation: Operation) -> str:
 def since(evidence: Evidence, operation: Operation, still: str = "as it should") -> str:
     """What came to the replica since its operation before, which is right: the program names the first fault."""
     before, receipts = evidence.before(operation)
-    did_what = [f", {did_there(evidence, receipt.seen, operation.replica)}" if evidence.report["verdict"] == "contents" and receipt.seen.kind in ("ins", "del") else "" for receipt in receipts]
+    did_what = [f", {did_there(evidence, receipt.seen, operation.replica)}" if evidence.report["verdict"] == "contents" and receipt.seen.kind in ("ins", "del") else ""
+                for receipt in receipts[:MOST_ARRIVED]]
     arrived = [f"{receipt.seen.name} (line {receipt.line}{what})" for receipt, what in zip(receipts, did_what)]
-    more = f" and {len(arrived) - MOST_ARRIVED} more" if len(arrived) > MOST_ARRIVED else ""
-    came = "received " + ", ".join(arrived[:MOST_ARRIVED]) + more if arrived else "received nothing"
+    more = f" and {len(receipts) - MOST_ARRIVED} more" if len(receipts) > MOST_ARRIVED else ""
+    came = "received " + ", ".join(arrived) + more if arrived else "received nothing"
     if not before:
         return f"before it: replica {operation.replica} did nothing, and {came}"
     list_before = marked(before[0].response, set(evidence.elements) if evidence.report["verdict"] == "contents" else set())
