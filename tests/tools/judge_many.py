@@ -389,14 +389,14 @@ IN_COMMON = {
         "  a change arrived that was concurrent with one of the receiver's own: this came before the wrong list in all 5; 2 of the 12 that pass have it too"]),
     # Of 48 correct lists 12 come so: one in each failing session, two in each of the four that pass.
     "at one place": ([(4, f"{TIED} b a")], [(4, f"{TIED} a b"), (4, IN_TURN)], [
-        "  an insert arrived at a place where an element stood that the insert's author had not seen: this came just before all 4 wrong lists (100 %) and just before 12 of the 48 correct ones (25 %)",
-        "  a change arrived that was concurrent with one of the receiver's own: this came just before all 4 wrong lists (100 %) and just before 12 of the 48 correct ones (25 %)",
+        "  an insert arrived at a place where an element stood that the insert's author had not seen: this came just before all 4 wrong lists (100 %) and just before 12 of the 48 correct ones of all these sessions (25 %)",
+        "  a change arrived that was concurrent with one of the receiver's own: this came just before all 4 wrong lists (100 %) and just before 12 of the 48 correct ones of all these sessions (25 %)",
         "  Up to where they fail, 4 of the 4 have no deletes: so the bug does not need these."]),
     "none that pass, and few lists": ([(3, BEGUN_ONCE)], [], []),
     # Of 24 correct lists 8 come so.
     "none that pass": ([(8, f"{TIED} b a")], [], [
-        "  an insert arrived at a place where an element stood that the insert's author had not seen: this came just before all 8 wrong lists (100 %) and just before 8 of the 24 correct ones (33 %)",
-        "  a change arrived that was concurrent with one of the receiver's own: this came just before all 8 wrong lists (100 %) and just before 8 of the 24 correct ones (33 %)",
+        "  an insert arrived at a place where an element stood that the insert's author had not seen: this came just before all 8 wrong lists (100 %) and just before 8 of the 24 correct ones of all these sessions (33 %)",
+        "  a change arrived that was concurrent with one of the receiver's own: this came just before all 8 wrong lists (100 %) and just before 8 of the 24 correct ones of all these sessions (33 %)",
         "  Up to where they fail, 8 of the 8 have no deletes: so the bug does not need these."]),
     "too few": ([(2, BEGUN_TWICE)], [(10, RIGHT_ONCE)], []),
     "nothing stands out": ([(3, BEGUN_TWICE)], [(9, RIGHT_TWICE)], []),

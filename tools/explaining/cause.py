@@ -28,7 +28,7 @@ EMPTIED = ("Before that, in line {line}, replica {replica} received {change}, wh
 NONE_ON_WAY = "When {came} arrived, replica {replica} had no change of its own that the author of {came} did not know: so look at what the server (if it adjusts positions) made of {came}, and at what was sent before {came}."
 ONE_ON_WAY = "When {came} arrived, replica {replica} had one change of its own that the author of {came} did not know yet, {own}: this and {came} must each be adjusted for the other."
 SEVERAL_ON_WAY = ("When {came} arrived, replica {replica} had {count} changes of its own that the author of {came} did not know yet: {own}. Adjust {came} for each of "
-                  "these, one after another; and adjust each of these for {came}. Do so also for its changes that still wait to be sent.")
+                  "these, one after another; and adjust each of these for {came}.")
 DELETED_TWICE = ("Before that, {element} was deleted at replica {replica} more than once: by {other}, and by {change}, which came in line {line}. If the editor counts how many elements it shows (in blocks, or "
                  "below the nodes of a tree), it must subtract each only once. Else all later local positions are counted wrongly.")
 BY_ITSELF = "perhaps deleted elements are thrown away there, changes that were held back are applied, or a copy of the list that is shown is made anew."

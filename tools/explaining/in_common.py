@@ -209,7 +209,7 @@ def standing_out(failing: list, passing: list) -> list:
             found.append(Telling(weight(count / len(failing), others, len(passing)), name, count, False, f"; {others or 'none'} of the {len(passing)} that pass {'have' if others > 1 else 'has'} it{' too' if others else ''}"))
         count, others = sum(name in session.last for session in failing), sum(name in one for one in lists)
         if len(lists) >= FEWEST_LISTS and count >= MANY_LISTS * len(failing):
-            right = f" and just before {others} of the {len(lists)} correct ones ({round(100 * others / len(lists))} %)"
+            right = f" and just before {others} of the {len(lists)} correct ones of all these sessions ({round(100 * others / len(lists))} %)"
             found.append(Telling(weight(count / len(failing), others, len(lists)), name, count, True, right))
     least = max(TELLING, -log(BY_CHANCE) / len(failing))
     general = set().union(*GENERAL.values())
