@@ -965,13 +965,23 @@ def beside_told(told: str) -> list:
 
 
 def stops_told(told: str) -> tuple:
-    """What the last of some lines says of where elements arrived, as (line, replica, element), and whether it says nothing else."""
+    """What the last of some lines says of where elements arrived, as (line, replica, element), and whether it says nothing else: by element, in the order in
+    which they came first."""
     last = told.splitlines()[-1].strip()
-    found = re.findall(r"(\S+)( arrived)? at replica (\d+) in line (\d+)(?:, |$)", last) if re.match(r"\S+ arrived at replica ", last) else []
-    whole = ", ".join(f"{name}{verb} at replica {replica} in line {line}" for name, verb, replica, line in found)
-    verbs, lines = [bool(verb) for _, verb, *_ in found], [int(line) for *_, line in found]
-    is_right = whole == last * bool(found) and verbs == [place == 0 for place in range(len(found))] and lines == sorted(lines)
-    return [(int(line), replica, name) for name, _, replica, line in found], is_right
+    if not re.match(r"\S+ arrived at replica ", last):
+        return [], True
+    by = "; " if " and at replica " in last else ", "
+    parts, found = last.split(by), []
+    for place, part in enumerate(parts):
+        name, verb, where = re.fullmatch(r"(\S+)( arrived)? (.*)", part).groups()
+        places = re.findall(r"at replica (\d+) in line (\d+)", where)
+        *before, end = [f"at replica {replica} in line {line}" for replica, line in places]
+        if where != " and ".join(filter(None, [", ".join(before), end])) or bool(verb) != (place == 0):
+            return [], False
+        found.append([(int(line), replica, name) for replica, line in places])
+    lines = [[line for line, *_ in one] for one in found]
+    is_in_order = [one[0] for one in lines] == sorted(one[0] for one in lines) and all(one == sorted(one) for one in lines)
+    return sum(found, []), is_in_order and len({one[0][2] for one in found}) == len(found)
 
 
 def said_first(tally: Tally, program: str) -> None:
