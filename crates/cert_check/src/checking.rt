@@ -27,12 +27,7 @@ use trace_text::{Cause, read};
 /// starts no thread. Its memory is linear in the texts but for that table, which takes `n * n / 8` bytes, 2
 /// MiB for 4,096 elements and 512 MiB for 65,536. Out of memory is answered only where a line of the trace
 /// takes memory, or where the trace spells a recording and the certificate's text a certificate.
-pub fn check<H: Threads + Sync>(
-    rt: &H,
-    alloc: Global,
-    trace: &[u8],
-    cert: &[u8],
-) -> Result<Answer, Memory>
+pub fn check_in_turn(alloc: Global, trace: &[u8], cert: &[u8]) -> Result<Answer, Memory>
     ensures answer { IfOk result (λ a. IsAnswer trace.now cert.now a) }
     // What a yes says of the recording.
     ensures implies { IfOk result (λ a. ImpliesOfTexts trace.now cert.now a) }
@@ -40,7 +35,7 @@ pub fn check<H: Threads + Sync>(
     ensures memory { IfErr result (λ _. TakesMemory trace.now cert.now) }
 {
     match read(alloc, trace) {
-        Ok(recording) => check_recording(rt, alloc, &recording, cert),
+        Ok(recording) => check_recording_in_turn(alloc, &recording, cert),
         Err(fault) => {
             if is_out_of_memory(fault.cause) {
                 Err(Memory)
@@ -51,16 +46,31 @@ pub fn check<H: Threads + Sync>(
     }
 }
 
-/// What `check` answers on each trace that spells the recording, for a caller that has read it already, as
-/// `trace_text::Reader` does piece by piece. So the trace's text need not stand in memory.
+/// The same, for a caller that has a handle: it is not used.
+pub fn check<H: Threads + Sync>(
+    _rt: &H,
+    alloc: Global,
+    trace: &[u8],
+    cert: &[u8],
+) -> Result<Answer, Memory>
+    ensures answer { IfOk result (λ a. IsAnswer trace.now cert.now a) }
+    // What a yes says of the recording.
+    ensures implies { IfOk result (λ a. ImpliesOfTexts trace.now cert.now a) }
+    // Out of memory, only where a line of the trace takes some, or both texts spell something.
+    ensures memory { IfErr result (λ _. TakesMemory trace.now cert.now) }
+{
+    check_in_turn(alloc, trace, cert)
+}
+
+/// What `check_in_turn` answers on each trace that spells the recording, for a caller that has read it already,
+/// as `trace_text::Reader` does piece by piece. So the trace's text need not stand in memory.
 ///
-/// It costs what `check` does but for the reading of the trace. Beside the recording and the certificate's
-/// text it keeps what is visible in the recording, the numbers of the elements, those responses that cover
-/// all as numbers, for the rows the lists or the table of `Ways`, the depths and 20 bytes for each element by
-/// which names are found again, and of one row at a time the numbers that have a depth, and by the table the
-/// layers (at most `2 * n + 2` lists) and the two sets of `are_deep`.
-pub fn check_recording<H: Threads + Sync>(
-    rt: &H,
+/// It costs what `check_in_turn` does but for the reading of the trace. Beside the recording and the
+/// certificate's text it keeps what is visible in the recording, the numbers of the elements, those responses
+/// that cover all as numbers, for the rows the lists or the table of `Ways`, the depths and 20 bytes for each
+/// element by which names are found again, and of one row at a time the numbers that have a depth, and by the
+/// table the layers (at most `2 * n + 2` lists) and the two sets of `are_deep`.
+pub fn check_recording_in_turn(
     alloc: Global,
     recording: &Recording,
     cert: &[u8],
@@ -74,9 +84,25 @@ pub fn check_recording<H: Threads + Sync>(
     // Each recording is legal.
     let _replicas = recording.replicas();
     match Outline::read(cert) {
-        Ok((version, outline)) => judge(rt, alloc, recording, version, &outline),
+        Ok((version, outline)) => judge(alloc, recording, version, &outline),
         Err(_) => Ok(Answer::No(Reason::CertText)),
     }
+}
+
+/// The same, for a caller that has a handle: it is not used.
+pub fn check_recording<H: Threads + Sync>(
+    _rt: &H,
+    alloc: Global,
+    recording: &Recording,
+    cert: &[u8],
+) -> Result<Answer, Memory>
+    ensures answer { IfOk result (λ a. IsAnswerOn recording.now cert.now a) }
+    // What a yes says of the recording.
+    ensures implies { IfOk result (λ a. ImpliesOn recording.now cert.now a) }
+    // Out of memory, only where the text spells a certificate.
+    ensures memory { IfErr result (λ _. CertTakesMemory cert.now) }
+{
+    check_recording_in_turn(alloc, recording, cert)
 }
 
 /// Whether the reading of a trace found no memory.

@@ -15,17 +15,15 @@ use super::cycle::judge_cycle;
 use super::faults::judge_fault;
 use super::order::judge_order;
 use certificate_text::{Outline, Version};
-use contents_check::{Checked, check};
+use contents_check::{Checked, check_in_turn};
 use element_numbers::NumberedElements;
 use events::{Memory, Recording};
 use std::alloc::Global;
-use std::thread::Threads;
 use visibility::Sight;
 
 /// Whether the certificate with this outline, of this version, is valid for the recording; where not, the
 /// first reason.
-pub fn judge<H: Threads + Sync>(
-    rt: &H,
+pub fn judge(
     alloc: Global,
     recording: &Recording,
     version: Version,
@@ -36,7 +34,7 @@ pub fn judge<H: Threads + Sync>(
         → IsJudged (version_in version) recording.now c answer) }
 {
     let sight = Sight::of(alloc, recording)?;
-    match check(rt, alloc, 1, recording, &sight)? {
+    match check_in_turn(alloc, recording, &sight)? {
         Checked::Faulty(fault) => Ok(judge_fault(outline, &fault)),
         Checked::Sound(found) => judge_sound(alloc, recording, found, version, outline),
     }

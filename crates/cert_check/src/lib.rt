@@ -8,8 +8,7 @@
 //!   4 MB of slots. Without that a gigabyte of right steps in long responses would take minutes.
 //! - It starts no thread. Near the limit on names a second thread took 7 and 8 milliseconds of processor
 //!   more, a tenth of what the checker does beyond reading (two recordings, least of seven runs, 2026-11-26).
-//!   It asks `contents_check::check` with one worker, so it has the handle for threads all the same: the
-//!   toolchain could not prove its caller otherwise.
+//!   `check` and `check_recording` take a handle, which they don't use.
 #![tactic(auto)]
 
 mod answer;
@@ -30,7 +29,7 @@ mod values;
 mod ways;
 
 pub use answer::{Answer, Kind, Reason};
-pub use checking::{check, check_recording};
+pub use checking::{check, check_in_turn, check_recording, check_recording_in_turn};
 pub use laws::{
     answers_are_unique, layers_bound_cycles, valid_certificates_get_yes,
     valid_certificates_have_no_reason, valid_certificates_imply, verdicts_certificates_get_yes,

@@ -2,7 +2,8 @@
 //! checker needs no search.
 //!
 //! `judge`, of the crate `verdict`, gives the verdict. `certify` shows why it is right, and
-//! `write_certificate` gives the text of that. `judge_and_write` does both, with threads.
+//! `write_certificate` gives the text of that. `judge_and_write` does both, with threads, and
+//! `judge_and_write_in_turn` without.
 //!
 //! Rows do not depend on one another, so threads make them side by side, in pieces. The pieces are not put
 //! together, which would copy some tens of megabytes: the command `cert` writes them one after the other. A
@@ -23,7 +24,9 @@ pub use specification::{
 };
 pub use verdict::{Gate, NoGate, SearchFault, Verdict, judge};
 pub use witnesses::{Order, Step, Steps};
-pub use writing::{Certified, judge_and_write, write_certificate};
+pub use writing::{
+    Certified, Written, judge_and_write, judge_and_write_in_turn, write_certificate,
+};
 
 #[cfg(test)]
 mod tests;

@@ -18,7 +18,7 @@ use level_search::{Gate, MOST_WORKERS, SearchFault};
 use order_graph::OrderGraph;
 use std::alloc::Global;
 use std::thread::Threads;
-use verdict::{Judged, Verdict, verdict_and_graph};
+use verdict::{Judged, Verdict, verdict_and_graph, verdict_and_graph_in_turn};
 
 /// The text of the certificate of a verdict, in version two: the same bytes as `certify` and then
 /// `Certificate::write` give, in less memory.
@@ -85,6 +85,51 @@ pub fn judge_and_write<H: Threads + Sync, G: Gate>(
     } = verdict_and_graph(rt, alloc, recording, workers, gate)?;
     let texts = texts_by(rt, alloc, workers, recording, &verdict, graph)?;
     Ok(Certified { verdict, texts })
+}
+
+/// A verdict, and the text of its certificate.
+#[derive(Drop)]
+pub struct Written {
+    pub verdict: Verdict,
+    pub text: Vec<u8>,
+}
+
+/// What `judge_and_write` gives, as one text, by one worker in the caller's thread. It needs no handle.
+pub fn judge_and_write_in_turn(alloc: Global, recording: &Recording) -> Result<Written, Memory>
+    ensures verdict { IfOk result (λ w. IsVerdict recording.now (verdict_of w.verdict)) }
+    ensures text { IfOk result (λ w. IsTextOfCertificate recording.now (verdict_of w.verdict) w.text.items) }
+{
+    let Judged {
+        verdict,
+        graph,
+        looked: _,
+    } = verdict_and_graph_in_turn(alloc, recording)?;
+    let text = text_in_turn(alloc, recording, &verdict, graph)?;
+    Ok(Written { verdict, text })
+}
+
+/// The text of the certificate of a verdict. A refusal comes with its graph.
+fn text_in_turn(
+    alloc: Global,
+    recording: &Recording,
+    verdict: &Verdict,
+    made: Option<OrderGraph>,
+) -> Result<Vec<u8>, Memory>
+    requires verdict { IsVerdict recording.now (verdict_of verdict.now) }
+    requires made { IfSome made (IsCoveredBy (responses_of recording.now)) }
+    requires refusal { IfNone made (¬ IsRefusal (verdict_of verdict.now)) }
+    ensures { IfOk result (λ text. IsTextOfCertificate recording.now (verdict_of verdict.now) text.items) }
+{
+    // The contract of this call has that the recording is legal.
+    let _ = recording.replicas();
+    let mut text = text_without_rows(alloc, recording, verdict)?;
+    let Some(k) = number_with_rows(verdict) else {
+        return Ok(text);
+    };
+    let Some(graph) = made else { unreachable!() };
+    let mut maker = row_maker(alloc, &graph, k)?;
+    maker.push_rows(&mut text)?;
+    Ok(text)
 }
 
 /// The text of the certificate of a verdict, as texts one after the other. A refusal comes with its graph.

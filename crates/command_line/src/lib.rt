@@ -5,7 +5,7 @@ mod task;
 mod words;
 
 pub use task::{Form, Task, Word};
-pub use words::{MOST_WORKERS, WORKERS, WordsFault, read_words};
+pub use words::{MOST_WORKERS, VERSION, WORKERS, WordsFault, read_words};
 
 #[cfg(test)]
 mod tests;

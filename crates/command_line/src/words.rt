@@ -26,7 +26,7 @@ pub const WORKERS: u32 = 4;
 pub const MOST_WORKERS: u32 = 64;
 
 /// The version of the program, which `--version` prints after its name.
-const VERSION: &str = "0.2.0";
+pub const VERSION: &str = "0.2.0";
 
 /// Why the words of a command line give no task.
 #[derive(Debug, Drop)]

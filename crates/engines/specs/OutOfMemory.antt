@@ -41,3 +41,7 @@ abbrev pub RunsOutVerifying : SourceState → SourceState → SourceState → So
 RunsOutVerifying trace trace_after cert cert_after =
     (RunsOutAtPiece trace trace_after × (cert_after ≡ cert))
     ⊎ ((trace_after.ended ≡ true) × (HasBytes cert cert_after ⊎ (cert_after.ended ≡ true)))
+
+-- the text spells a recording, or has a line whose reading takes memory
+abbrev pub TakesMemory : List ℕ → Type 0
+TakesMemory text = ((h : History) × Spells text h) ⊎ ((line : ℕ) × TakesMemoryAt text line)

@@ -3,12 +3,15 @@
 //!
 //! - They say by [`Status`] what they found, or by [`RunFault`] why they wrote no output, or not the whole of
 //!   it.
+//! - [`report_on_text`] and [`certificate_on_text`] do what [`run`] and [`run_cert`] do for a trace in memory, in
+//!   the caller's thread.
 //! - [`recording_from`], [`verdict_on`], [`status_of`], [`Output`] and [`write_output`] are parts that the
 //!   engine `live` has too. That stands in `live_engine`, so this crate needs no sessions.
 #![tactic(auto)]
 
 mod answer_line;
 mod certified;
+mod in_memory;
 mod output;
 mod reported;
 mod status;
@@ -16,6 +19,7 @@ mod trace_source;
 mod verified;
 
 pub use certified::run_cert;
+pub use in_memory::{certificate_on_text, report_on_text};
 pub use output::{Output, status_of, verdict_on, write_output};
 pub use reported::run;
 pub use status::{RunFault, Status};

@@ -86,7 +86,7 @@ fn report_on<H: Threads + Sync>(
 }
 
 /// The report of the verdict, in this form.
-fn bytes_of(
+pub fn bytes_of(
     alloc: Global,
     recording: &Recording,
     verdict: &Verdict,

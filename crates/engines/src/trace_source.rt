@@ -135,7 +135,7 @@ fn end(reader: trace_text::Reader) -> Result<Recording, RunFault>
 }
 
 /// The run's fault for a text's: out of memory has no line.
-fn trace_fault(fault: LineFault) -> RunFault
+pub fn trace_fault(fault: LineFault) -> RunFault
     ensures names { MatchOption (cause_of fault.cause) (result ≡ RunFault.Memory)
         (λ _. result ≡ RunFault.Trace fault) }
     ensures memory { result ≡ RunFault.Memory → fault.cause ≡ Cause.Refused Refusal.Memory }

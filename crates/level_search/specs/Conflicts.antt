@@ -13,6 +13,7 @@ use Rattle.level_search.specs.Thinned.{searched_of, IsThinned}
 use Rattle.level_search.specs.declared.conflict.Conflict.{Conflict}
 use Rattle.level_search.specs.declared.cycle_core.Core.{Core}
 use Rattle.level_search.specs.declared.conflict.Found.{Found}
+use Rattle.level_search.specs.declared.conflict.Prepared.{Prepared}
 
 -- so many looks at most as a search from each element would make that makes at most one for each place and
 -- for each element
@@ -32,7 +33,22 @@ pub record AreLooksIn (v : Responses) (least looked : ℕ) : Type 0 where
 abbrev pub searched_in : Core → Responses
 searched_in c = searched_of c.graph c.thinned
 
--- the core is one of these responses, the way is the core's, and the length that of a shortest cycle there
+-- the core is one of these responses, the way is the core's, and each cycle there leads through one of the sources
+pub record IsPrepared (v : Responses) (p : Prepared) : Type 0 where
+  pub proper : AreProper v
+  pub core : IsCoreOf v p.core.elements.items
+  pub part : p.core.graph ≡ narrowed v (names_at v.elements p.core.elements.items)
+  pub part_proper : AreProper p.core.graph
+  pub thin : IsThinned p.core.graph (searched_in p.core)
+  pub way : IsWay (searched_in p.core) p.way
+  pub elements_few : length (searched_in p.core).elements ≤ length v.elements
+  pub shown_few : length (searched_in p.core).elements ≤ place_count v
+  pub places_few : place_count (searched_in p.core) ≤ place_count v
+  pub sources_few : length p.sources.items ≤ length (searched_in p.core).elements
+  pub known : All (λ x. x < length (searched_in p.core).elements) p.sources.items
+  pub met : MeetsCycles (lists_of (searched_in p.core)) (length (searched_in p.core).elements) p.sources.items
+
+-- the same, and the length is that of a shortest cycle there
 pub record IsFound (v : Responses) (s : Found) : Type 0 where
   pub proper : AreProper v
   pub core : IsCoreOf v s.core.elements.items

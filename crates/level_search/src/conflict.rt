@@ -3,8 +3,10 @@
 ghost use Rattle.std.specs.Prelude.{◌≡◌, ◌⊎◌, ◌↔◌, ◌<◌, IfOk, IfSome, IsErrOf, length};
 ghost use Rattle.specification.specs.Conflict.{IsConflictNumber};
 ghost use Rattle.order_graph.specs.Lists.{lists_of};
-ghost use Rattle.level_search.specs.Conflicts.{AreLooksIn, IsFound, IsLeastConflict, IsWithinSearches};
+ghost use Rattle.level_search.specs.Conflicts.{AreLooksIn, IsFound, IsLeastConflict, IsPrepared};
+ghost use Rattle.level_search.specs.Conflicts.{IsWithinSearches, searched_in};
 ghost use Rattle.level_search.specs.Looks.{AreCycleLooks};
+ghost use Rattle.level_search.specs.Team.{AreLooksOf, IsLeastLength};
 ghost use Rattle.witness_order.specs.Edges.{AreEdgesOf};
 
 use super::MOST_WORKERS;
@@ -13,8 +15,9 @@ use super::cycles::least_cycle_from;
 use super::gate::Gate;
 use super::search_fault::SearchFault;
 use super::sources::feedback_vertex_set;
-use super::workers::{Searched, least_length};
+use super::workers::{Searched, least_length, least_length_in_turn};
 use crate::ways::Way;
+use events::Memory;
 use order_graph::OrderGraph;
 use shared_bound::NO_OFFER;
 use std::alloc::Global;
@@ -44,6 +47,50 @@ fn edges_for(alloc: Global, graph: &OrderGraph, workers: u32) -> Result<Successo
     Ok(successors_of(alloc, graph)?)
 }
 
+/// What is made before a search: the core, the way in which it is searched, and the elements from which.
+#[derive(Drop)]
+struct Prepared {
+    core: Core,
+    way: Way,
+    sources: Vec<u32>,
+}
+
+/// Makes the core of a graph with these edges, and what its searches read.
+fn prepare(alloc: Global, graph: &OrderGraph, successors: Successors) -> Result<Prepared, Memory>
+    requires { AreEdgesOf (lists_of graph.now) (length graph.now.elements) successors }
+    ensures { IfOk result (IsPrepared graph.now) }
+{
+    // Its contract has that the responses are proper.
+    let _ = graph.elements();
+    let core = Core::of(alloc, graph, successors)?;
+    let _ = core.graph.elements();
+    let part = core.searched();
+    let _ = part.elements();
+    let way = Way::of(alloc, part)?;
+    let sources = feedback_vertex_set(alloc, part, &way)?;
+    let way = way.with_lower_bounds(alloc, part, &sources)?;
+    Ok(Prepared { core, way, sources })
+}
+
+/// What was found in the core of a graph.
+fn found_in(graph: &OrderGraph, prepared: Prepared, searched: Searched) -> Found
+    requires prepared { IsPrepared graph.now prepared }
+    requires least { IsLeastLength (searched_in prepared.core) searched.least }
+    requires looked { AreLooksOf (length (searched_in prepared.core).elements)
+        (lists_of (searched_in prepared.core)) searched.least searched.looked }
+    ensures { IsFound graph.now result }
+{
+    let Prepared { core, way, sources } = prepared;
+    let Searched { least, looked } = searched;
+    Found {
+        core,
+        way,
+        sources,
+        least,
+        looked,
+    }
+}
+
 /// Searches the core of a graph with these edges.
 fn search_core<H: Threads + Sync, G: Gate>(
     rt: &H,
@@ -60,25 +107,36 @@ fn search_core<H: Threads + Sync, G: Gate>(
     if workers < 1 || workers > MOST_WORKERS {
         return Err(SearchFault::Workers);
     }
-    // Its contract has that the responses are proper.
-    let _ = graph.elements();
-    let core = Core::of(alloc, graph, successors)?;
-    let _ = core.graph.elements();
-    let part = core.searched();
+    let prepared = prepare(alloc, graph, successors)?;
+    let part = prepared.core.searched();
     let _ = part.elements();
-    let way = Way::of(alloc, part)?;
-    let sources = feedback_vertex_set(alloc, part, &way)?;
-    let way = way.with_lower_bounds(alloc, part, &sources)?;
-    let gate = core.gate(gate);
-    let searched = least_length(rt, alloc, part, &way, &sources, workers, &gate)?;
-    let Searched { least, looked } = searched;
-    Ok(Found {
-        core,
-        way,
-        sources,
-        least,
-        looked,
-    })
+    let gate = prepared.core.gate(gate);
+    let searched = least_length(
+        rt,
+        alloc,
+        part,
+        &prepared.way,
+        &prepared.sources,
+        workers,
+        &gate,
+    )?;
+    Ok(found_in(graph, prepared, searched))
+}
+
+/// The same by one worker, in the caller's thread.
+fn search_core_in_turn(
+    alloc: Global,
+    graph: &OrderGraph,
+    successors: Successors,
+) -> Result<Found, Memory>
+    requires { AreEdgesOf (lists_of graph.now) (length graph.now.elements) successors }
+    ensures { IfOk result (IsFound graph.now) }
+{
+    let prepared = prepare(alloc, graph, successors)?;
+    let part = prepared.core.searched();
+    let _ = part.elements();
+    let searched = least_length_in_turn(alloc, part, &prepared.way, &prepared.sources)?;
+    Ok(found_in(graph, prepared, searched))
 }
 
 /// The conflict number: the least number of operations whose responses no order of the elements has all as
@@ -167,6 +225,33 @@ pub fn least_conflict_along<H: Threads + Sync, G: Gate>(
     ensures workers { IsErrOf result SearchFault.Workers ↔ ((workers < 1) ⊎ (MOST_WORKERS < workers)) }
 {
     let found = search_core(rt, alloc, graph, successors, workers, gate)?;
+    Ok(conflict_of(alloc, graph, found)?)
+}
+
+/// The same by one worker, in the caller's thread, which needs no handle.
+pub fn least_conflict_in_turn(
+    alloc: Global,
+    graph: &OrderGraph,
+    successors: Successors,
+) -> Result<Option<Conflict>, Memory>
+    requires edges { AreEdgesOf (lists_of graph.now) (length graph.now.elements) successors }
+    ensures conflict { IfOk result (IsLeastConflict graph.now) }
+    ensures looked { IfOk result (λ found. IfSome found (λ c. AreLooksIn graph.now c.k c.looked)) }
+    ensures few { IfOk result (λ found. IfSome found (λ c. IsWithinSearches graph.now c.looked)) }
+    ensures cycle { IfOk result (λ found. IfSome found (λ c. AreCycleLooks graph.now c.k c.cycle_looked)) }
+{
+    let found = search_core_in_turn(alloc, graph, successors)?;
+    conflict_of(alloc, graph, found)
+}
+
+/// The conflict that was found in a graph: with its least cycle, or none.
+fn conflict_of(alloc: Global, graph: &OrderGraph, found: Found) -> Result<Option<Conflict>, Memory>
+    requires { IsFound graph.now found }
+    ensures conflict { IfOk result (IsLeastConflict graph.now) }
+    ensures looked { IfOk result (λ made. IfSome made (λ c. AreLooksIn graph.now c.k c.looked)) }
+    ensures few { IfOk result (λ made. IfSome made (λ c. IsWithinSearches graph.now c.looked)) }
+    ensures cycle { IfOk result (λ made. IfSome made (λ c. AreCycleLooks graph.now c.k c.cycle_looked)) }
+{
     if found.least == NO_OFFER {
         return Ok(None);
     }

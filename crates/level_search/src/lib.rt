@@ -32,7 +32,9 @@ mod ways;
 mod workers;
 
 pub use before_table::BeforeTable;
-pub use conflict::{Conflict, conflict_number, least_conflict, least_conflict_along};
+pub use conflict::{
+    Conflict, conflict_number, least_conflict, least_conflict_along, least_conflict_in_turn,
+};
 pub use cycles::least_cycle;
 pub use gate::{Gate, NoGate};
 pub use laws::{least_offer_is_shortest, looks_are_determined, most_workers_is_the_number};

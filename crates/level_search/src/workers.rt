@@ -16,7 +16,7 @@ pub mod bound_seat;
 mod worker;
 
 use super::MOST_WORKERS;
-use super::gate::Gate;
+use super::gate::{Gate, NoGate};
 use crate::ways::Way;
 use events::Memory;
 use order_graph::OrderGraph;
@@ -163,6 +163,34 @@ pub fn least_length<H: Threads + Sync, G: Gate>(
     };
     let (first, looked) = last.into_seat();
     let (first, looked) = gathered(&bound, graph, sources, first, looked, team);
+    Ok(Searched {
+        least: closed(bound, graph, sources, first),
+        looked,
+    })
+}
+
+/// The same by one worker, in the caller's thread.
+pub fn least_length_in_turn(
+    alloc: Global,
+    graph: &OrderGraph,
+    way: &Way,
+    sources: &[u32],
+) -> Result<Searched, Memory>
+    requires way { IsWay graph.now way.now }
+    requires known { All (λ s. s < length graph.now.elements) sources.now }
+    requires count { length sources.now ≤ length graph.now.elements }
+    requires met { MeetsCycles (lists_of graph.now) (length graph.now.elements) sources.now }
+    requires proper { AreProper graph.now }
+    ensures least { IfOk result (λ s. IsLeastLength graph.now s.least) }
+    ensures looked { IfOk result (λ s. AreLooksOf (length graph.now.elements) (lists_of graph.now) s.least
+        s.looked) }
+{
+    // Its contract has that the elements are few.
+    let _ = graph.elements();
+    let (bound, first) = Bound::new(alloc, sources.len() as u32, 1)?;
+    let mut worker = Worker::new(alloc, graph, 0, &bound, first)?;
+    work(graph, way, sources, &NoGate, &mut worker);
+    let (first, looked) = worker.into_seat();
     Ok(Searched {
         least: closed(bound, graph, sources, first),
         looked,

@@ -1,25 +1,29 @@
 //! The verdict on a recording.
 
-ghost use Rattle.std.specs.Prelude.{◌≡◌, ◌⊎◌, ◌↔◌, ◌<◌, IfNone, IfOk, IfSome, IsErrOf, Some};
+ghost use Rattle.std.specs.Prelude.{◌≡◌, ◌⊎◌, ◌↔◌, ◌<◌, IfNone, IfOk, IfSome, IsErrOf, None, Some};
 ghost use Rattle.specification.specs.Faults.{IsSound};
 ghost use Rattle.specification.specs.Orders.{HasNoOrder, IsLeastOrder};
 ghost use Rattle.specification.specs.Responses.{responses_of};
 ghost use Rattle.specification.specs.Verdict.{IsVerdict, DecidesSpecifications, ProvesItself};
+ghost use Rattle.contents_check.specs.Covering.{IsChecked};
 ghost use Rattle.order_graph.specs.Covers.{IsCoveredBy};
 ghost use Rattle.level_search.specs.Conflicts.{AreLooksIn, IsLeastConflict, IsWithinSearches};
 ghost use Rattle.level_search.specs.Looks.{AreCycleLooks};
 ghost use Rattle.verdict.specs.AllLooks.{AreLooksFor};
+ghost use Rattle.verdict.specs.Sifted.{IsSifted};
 ghost use Rattle.verdict.specs.VerdictOf.{IsRefusal, verdict_of};
 
 use super::verdict::Verdict;
-use contents_check::{Checked, check};
-use events::Recording;
-use level_search::{Conflict, Gate, MOST_WORKERS, SearchFault, least_conflict_along};
+use contents_check::{Checked, check, check_in_turn};
+use events::{Memory, Recording};
+use level_search::{
+    Conflict, Gate, MOST_WORKERS, SearchFault, least_conflict_along, least_conflict_in_turn,
+};
 use order_graph::OrderGraph;
 use std::alloc::Global;
 use std::thread::Threads;
 use visibility::Sight;
-use witness_order::{Sorted, sort};
+use witness_order::{Sorted, Successors, sort};
 use witnesses::Order;
 
 /// The verdict on a recording.
@@ -82,29 +86,72 @@ pub fn verdict_and_graph<H: Threads + Sync, G: Gate>(
         return Err(SearchFault::Workers);
     }
     let sight = Sight::of(alloc, recording)?;
-    let numbered = match check(rt, alloc, workers, recording, &sight)? {
-        Checked::Faulty(fault) => {
-            return Ok(Judged {
-                verdict: Verdict::of_fault(fault),
-                graph: None,
-                looked: 0,
-            });
+    let checked = check(rt, alloc, workers, recording, &sight)?;
+    match sift(alloc, recording, checked)? {
+        Sifted::Settled(verdict) => Ok(settled(verdict)),
+        Sifted::Cyclic { graph, successors } => {
+            let found = least_conflict_along(rt, alloc, &graph, successors, workers, gate)?;
+            Ok(refused(recording, graph, found))
         },
+    }
+}
+
+/// The same by one worker, in the caller's thread, which needs no handle.
+pub fn verdict_and_graph_in_turn(alloc: Global, recording: &Recording) -> Result<Judged, Memory>
+    ensures verdict { IfOk result (λ found. IsVerdict recording.now (verdict_of found.verdict)) }
+    ensures graph { IfOk result (λ found. IfSome found.graph (IsCoveredBy (responses_of recording.now))) }
+    ensures refusal { IfOk result (λ found. IfNone found.graph (¬ IsRefusal (verdict_of found.verdict))) }
+    ensures looked { IfOk result (λ found. IfSome found.graph (λ g. AreLooksFor g (verdict_of found.verdict)
+        found.looked)) }
+    ensures none { IfOk result (λ found. IfNone found.graph (found.looked ≡ 0)) }
+{
+    let sight = Sight::of(alloc, recording)?;
+    let checked = check_in_turn(alloc, recording, &sight)?;
+    match sift(alloc, recording, checked)? {
+        Sifted::Settled(verdict) => Ok(settled(verdict)),
+        Sifted::Cyclic { graph, successors } => {
+            let found = least_conflict_in_turn(alloc, &graph, successors)?;
+            Ok(refused(recording, graph, found))
+        },
+    }
+}
+
+/// What is known of a recording before cycles are searched for: its verdict; or the graph of its responses,
+/// which no order follows, with the edges between neighbouring places.
+#[derive(Drop)]
+enum Sifted {
+    Settled(Verdict),
+    Cyclic {
+        graph: OrderGraph,
+        successors: Successors,
+    },
+}
+
+/// What is known of a recording once its contents are checked.
+fn sift(alloc: Global, recording: &Recording, checked: Checked) -> Result<Sifted, Memory>
+    requires { IsChecked recording.now checked }
+    ensures { IfOk result (IsSifted recording.now) }
+{
+    let numbered = match checked {
+        Checked::Faulty(fault) => return Ok(Sifted::Settled(Verdict::of_fault(fault))),
         Checked::Sound(numbered) => numbered,
     };
     let graph = OrderGraph::of_covering(recording, numbered);
-    let successors = match sort(alloc, &graph)? {
-        Sorted::Order(order) => {
-            return Ok(Judged {
-                verdict: accepted(recording, &graph, order),
-                graph: None,
-                looked: 0,
-            });
-        },
-        Sorted::Cyclic(successors) => successors,
-    };
-    let found = least_conflict_along(rt, alloc, &graph, successors, workers, gate)?;
-    Ok(refused(recording, graph, found))
+    match sort(alloc, &graph)? {
+        Sorted::Order(order) => Ok(Sifted::Settled(accepted(recording, &graph, order))),
+        Sorted::Cyclic(successors) => Ok(Sifted::Cyclic { graph, successors }),
+    }
+}
+
+/// A verdict for which no cycle was searched for.
+fn settled(verdict: Verdict) -> Judged
+    ensures { result ≡ record { verdict = verdict; graph = None; looked = 0 } }
+{
+    Judged {
+        verdict,
+        graph: None,
+        looked: 0,
+    }
 }
 
 /// The verdict on a recording without a fault: this is the least order that all responses follow.

@@ -8,7 +8,7 @@
 mod judging;
 mod verdict;
 
-pub use judging::{Judged, judge, verdict_and_graph};
+pub use judging::{Judged, judge, verdict_and_graph, verdict_and_graph_in_turn};
 pub use level_search::{Gate, NoGate, SearchFault};
 pub use verdict::Verdict;
 pub use witnesses::{Order, Step, Steps};

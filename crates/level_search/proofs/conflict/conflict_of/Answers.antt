@@ -8,55 +8,55 @@ use Rattle.level_search.specs.Conflicts.{searched_in}
 use Rattle.level_search.specs.Looks.{AreCycleLooks}
 use Rattle.level_search.specs.Sources.{MeetsCycles}
 use Rattle.level_search.specs.Thinned.{IsThinned}
-use Rattle.level_search.proofs.conflict.least_conflict_along.Goals as goal
+use Rattle.level_search.proofs.conflict.conflict_of.Goals as goal
 
 pub least_cycle_from-requires-clause-shortest : goal.least_cycle_from-requires-clause-shortest
-least_cycle_from-requires-clause-shortest g c =
-    shortest c.in_ok-found.found.core.graph c.in_ok-found.found.least c.in_ok-found.ensures.least.least
+least_cycle_from-requires-clause-shortest c =
+    shortest c.args.found.core.graph c.args.found.least c.requires.least
     c.if-found.false
 
 pub least_cycle_from-requires-clause-met : goal.least_cycle_from-requires-clause-met
-least_cycle_from-requires-clause-met g c =
+least_cycle_from-requires-clause-met c =
     let part : Responses = c.searched.result.now in
     subst (λ (xs : List ℕ). MeetsCycles (lists_of part) (length part.elements) xs)
     (sym c.deref.ensures.value)
-    (subst (λ (w : Responses). MeetsCycles (lists_of w) (length w.elements) c.in_ok-found.found.sources.items)
-    (sym c.searched.ensures) c.in_ok-found.ensures.least.met)
+    (subst (λ (w : Responses). MeetsCycles (lists_of w) (length w.elements) c.args.found.sources.items)
+    (sym c.searched.ensures) c.requires.met)
 
 pub returns-then-found-clause-conflict : goal.returns-then-found-clause-conflict
-returns-then-found-clause-conflict g c =
-    no_conflict c.args.graph.now c.in_ok-found.found c.in_ok-found.ensures.least c.if-found.true
+returns-then-found-clause-conflict c =
+    no_conflict c.args.graph.now c.args.found c.requires c.if-found.true
 
 pub returns-clause-conflict : goal.returns-clause-conflict
-returns-clause-conflict g c =
-    let is = c.in_ok-found.ensures.least in
+returns-clause-conflict c =
+    let is = c.requires in
     let made = c.in_ok-cycle.ensures.steps in (
-      some_conflict c.args.graph.now c.in_ok-found.found is c.if-found.false,
-      least_steps c.args.graph.now c.in_ok-found.found is c.in_ok-cycle.cycle.steps made.0,
+      some_conflict c.args.graph.now c.args.found is c.if-found.false,
+      least_steps c.args.graph.now c.args.found is c.in_ok-cycle.cycle.steps made.0,
       made.1,
     )
 
 pub returns-clause-looked : goal.returns-clause-looked
-returns-clause-looked g c =
-    let is = c.in_ok-found.ensures.least in
+returns-clause-looked c =
+    let is = c.requires in
     record {
-      numbers = c.in_ok-found.found.core.elements.items;
+      numbers = c.args.found.core.elements.items;
       core = is.core;
-      part = searched_in c.in_ok-found.found.core;
+      part = searched_in c.args.found.core;
       is_part =
-          subst (λ (w : Responses). IsThinned w (searched_in c.in_ok-found.found.core)) is.part is.thin;
+          subst (λ (w : Responses). IsThinned w (searched_in c.args.found.core)) is.part is.thin;
       looks = is.looked;
     }
 
 pub returns-clause-few : goal.returns-clause-few
-returns-clause-few g c = c.in_ok-found.ensures.least.few
+returns-clause-few c = c.requires.few
 
 pub returns-clause-cycle : goal.returns-clause-cycle
-returns-clause-cycle g c =
+returns-clause-cycle c =
     let v : Responses = c.args.graph.now in
-    let is = c.in_ok-found.ensures.least in
-    let part : Responses = searched_in c.in_ok-found.found.core in
-    let k : ℕ = c.in_ok-found.found.least in
+    let is = c.requires in
+    let part : Responses = searched_in c.args.found.core in
+    let k : ℕ = c.args.found.least in
     let looked : ℕ = c.in_ok-cycle.cycle.looked in
     let here : AreCycleLooks part k looked =
     subst (λ (w : Responses). AreCycleLooks w k looked) c.searched.ensures c.in_ok-cycle.ensures.looked in

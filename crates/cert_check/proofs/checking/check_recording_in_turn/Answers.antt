@@ -3,10 +3,10 @@ use Rattle.std.proofs.lemmas.Result.{IfOk-weaker}
 use Rattle.certificate_text.specs.CertificateOf.{version_in}
 use Rattle.certificate_text.proofs.OneCertificate.{one-certificate}
 use Rattle.cert_check.proofs.Implied.{if_err, implied_on, judged_on}
-use Rattle.cert_check.proofs.checking.check_recording.Goals as goal
+use Rattle.cert_check.proofs.checking.check_recording_in_turn.Goals as goal
 
 pub returns-in-Ok : goal.returns-in-Ok
-returns-in-Ok g c =
+returns-in-Ok c =
     let ok = c.in-Ok.ensures.ok in
     let version = version_in c.in-Ok.version in
     let judged =
@@ -20,7 +20,7 @@ returns-in-Ok g c =
     }
 
 pub returns-in-Err-clause-answer : goal.returns-in-Err-clause-answer
-returns-in-Err-clause-answer g c =
+returns-in-Err-clause-answer c =
     λ trace spells. (
       (c.args.recording.now, spells),
       (λ version d spelled. c.in-Err.ensures.spelled version d spelled),

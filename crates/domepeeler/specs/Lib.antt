@@ -1,0 +1,2 @@
+-- What contracts of this crate see: how calls end.
+pub mod Ends
