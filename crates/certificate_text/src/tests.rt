@@ -72,6 +72,35 @@ fn certificates_are_read_and_written_again(rt: HostRuntime) {
     }
 }
 
+/// The text of an order of so many names, `n0`, `n1` and so on.
+fn order_text(alloc: Global, count: u32) -> Result<String, Memory> {
+    let mut text = String::from_str(alloc, "cert 1\naccepted\norder :")?;
+    for n in 0..count {
+        text.push_str(" n")?;
+        text.push_str(n.to_string(alloc)?.as_str())?;
+    }
+    text.push_str("\n")?;
+    Ok(text)
+}
+
+/// Whether the text of an order of so many names is written again; where the first call finds no memory for
+/// the text, what the second gives.
+fn is_order_written_again(alloc: Global, count: u32) -> bool {
+    for _ in 0..2 {
+        if let Ok(text) = order_text(alloc, count) {
+            return is_written_again(alloc, text.as_str());
+        }
+    }
+    false
+}
+
+// A response has at most 4,096 names, and an order may have more: memory is not answered for an order that
+// is longer than a response may be.
+#[test]
+fn an_order_may_be_longer_than_a_response(rt: HostRuntime) {
+    assert!(rt; is_order_written_again(rt.alloc(), 4097));
+}
+
 /// Whether it is the step `c d 3.4`.
 fn is_third_step(step: Option<&Step>) -> bool {
     match step {

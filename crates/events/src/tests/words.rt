@@ -1,6 +1,6 @@
 //! The words of faults and refusals.
 
-use crate::{NameFault, NewFault, Refusal};
+use crate::{Memory, NameFault, NewFault, PushFault, Refusal};
 use std::alloc::Global;
 use std::fmt::Display;
 
@@ -48,8 +48,16 @@ fn new_faults_say(alloc: Global) -> bool {
         && says(alloc, &NewFault::Memory, "memory")
 }
 
+/// Whether a want of memory, and what hinders that bytes are put at the end of a response, have their words.
+fn push_faults_say(alloc: Global) -> bool {
+    says(alloc, &Memory, "memory")
+        && says(alloc, &PushFault::Memory, "memory")
+        && says(alloc, &PushFault::Name(NameFault::Empty), "empty name")
+}
+
 #[test]
 fn faults_have_their_words(rt: HostRuntime) {
     assert!(rt; name_faults_say(rt.alloc()));
     assert!(rt; new_faults_say(rt.alloc()));
+    assert!(rt; push_faults_say(rt.alloc()));
 }
