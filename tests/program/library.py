@@ -1,0 +1,186 @@
+#!/usr/bin/env python3
+"""library.py PROGRAM: libdomepeeler beside the program: the same bytes and the same status, for the vectors, for the examples, for each of them
+cut and changed, and for 10,000 generated recordings; rooms that are too short; 16 threads at once; a million calls; each request for memory
+refused in turn; the names that the library shows.
+
+The library is made anew by `tools/library` of what `rt lib` left in crates/domepeeler/out. Vectors have answers of their own, by the slow
+reference."""
+from __future__ import annotations
+
+import ctypes
+import random
+import subprocess
+import sys
+import tempfile
+from pathlib import Path
+
+ROOT = Path(__file__).resolve().parents[2]
+sys.path.insert(0, str(ROOT / "tests"))
+from shared.program import Ended, Quick, Tally, is_short, need, program_of  # noqa: E402
+from shared.sessions import session, with_fault  # noqa: E402
+
+SEED = 20261201
+CASES = 10_000
+NO_RECORDING, NO_MEMORY, SHORT = 2, 3, 4
+NAMES = ["domepeeler_cert", "domepeeler_verdict", "domepeeler_version"]
+HERE = Path(__file__).resolve().parent
+MOST_KILOBYTES = 256  # that a million calls may add
+
+
+class End(ctypes.Structure):
+    """`struct domepeeler_end`."""
+
+    _fields_ = [("status", ctypes.c_uint32), ("line", ctypes.c_uint32), ("length", ctypes.c_size_t)]
+
+
+class Library:
+    """The library's calls over bytes."""
+
+    def __init__(self, path: Path):
+        self.loaded = ctypes.CDLL(str(path))
+        for name in NAMES:
+            getattr(self.loaded, name).restype = End
+        self.room = ctypes.create_string_buffer(1 << 20)
+
+    def into(self, words: list, text: bytes, room: ctypes.Array) -> End:
+        """The call that the command's words name, with a room."""
+        begin, size = ctypes.c_char_p(text), ctypes.c_size_t(len(text))
+        if words[0] == "cert":
+            return self.loaded.domepeeler_cert(begin, size, room, ctypes.c_size_t(len(room)))
+        return self.loaded.domepeeler_verdict(begin, size, ctypes.c_uint32(int("--json" in words)), room, ctypes.c_size_t(len(room)))
+
+    def run(self, words: list, text: bytes) -> tuple[Ended, int]:
+        """What the command would end with, by the library, and the number of the faulty line."""
+        end = self.into(words, text, self.room)
+        said = ctypes.string_at(self.room, end.length)
+        if end.status == NO_RECORDING:
+            return Ended(2, b"", b"finder: " + said + b"\n"), end.line
+        return Ended(end.status, said, b""), end.line
+
+
+COMMANDS = ["verdict", "-"], ["verdict", "--json", "-"], ["cert", "-"]
+
+
+def compared(tally: Tally, library: Library, quick: Quick, name: str, text: bytes, commands: tuple = COMMANDS) -> None:
+    """The same text by both."""
+    for words in commands:
+        got, line = library.run(words, text)
+        wanted = quick.run(words, text)
+        tally.same(f"{name} {words[:2]}", got, wanted)
+        named = int(wanted.err.split(b" ")[2].rstrip(b":")) if wanted.status == NO_RECORDING else 0
+        tally.check(f"the line of {name}", line == named, f"{line}, not {named}")
+
+
+def vectors(tally: Tally, library: Library) -> None:
+    """The answers of the slow reference."""
+    for trace in sorted((ROOT / "tests" / "vectors").glob("*.trace")):
+        for words, suffix in zip(COMMANDS, ("report", "json", "cert2")):
+            wanted = trace.with_suffix(f".{suffix}")
+            if wanted.exists():
+                got, _line = library.run(words, trace.read_bytes())
+                status = int(trace.with_suffix(".status").read_text())
+                tally.check(f"{trace.name} {words}", (got.status, got.out) == (status, wanted.read_bytes()), got)
+
+
+def changed(rnd: random.Random, text: bytes) -> bytes:
+    """The text with a byte changed, left out or put in, or a line moved."""
+    at, kind = rnd.randrange(len(text)), rnd.randrange(4)
+    if kind == 0:
+        return text[:at] + bytes([rnd.randrange(256)]) + text[at + 1:]
+    if kind == 1:
+        return text[:at] + text[at + 1:]
+    if kind == 2:
+        return text[:at] + rnd.choice([b" ", b"\n", b"0", b"\0", b"\r\n", b" : a"]) + text[at:]
+    lines = text.splitlines(keepends=True)
+    lines.insert(rnd.randrange(len(lines)), lines.pop(rnd.randrange(len(lines))))
+    return b"".join(lines)
+
+
+def texts(rnd: random.Random) -> list:
+    """The vectors and the examples, and of the short ones each cut somewhere and changed somewhere."""
+    found = [path.read_bytes() for folder in ("tests/vectors", "examples") for path in sorted((ROOT / folder).glob("*.trace"))]
+    short = [text for text in found if 0 < len(text) <= 4096]
+    cut = [text[:rnd.randrange(len(text))] for text in short for _ in range(10)]
+    return found + cut + [changed(rnd, text) for text in short for _ in range(20)] + [b"", b"\n", b"trace 1\n", b"trace 1\nreplicas 1\n", b"\xff" * 99]
+
+
+def generated(tally: Tally, library: Library, quick: Quick, rnd: random.Random) -> None:
+    """Generated recordings: the report of each, JSON and certificate of each tenth."""
+    for case in range(CASES):
+        text = session(rnd, case % 2 == 0)
+        if rnd.random() < 0.3:
+            text = with_fault(rnd, text, case % 2 == 0)
+        compared(tally, library, quick, f"case {case}", text.encode(), COMMANDS if case % 10 == 0 else COMMANDS[:1])
+
+
+def short_rooms(tally: Tally, library: Library, text: bytes) -> None:
+    """Each room that is too short, and some that are not: what stands behind the output, or in a room that is too short, stays."""
+    for words in COMMANDS:
+        whole, _line = library.run(words, text)
+        said = whole.out or whole.err[len("finder: "):-1]
+        for size in range(1, len(said) + 9):
+            room = (ctypes.c_char * size)(*([b"#"] * size))
+            end = library.into(words, text, room)
+            fits = size >= len(said)
+            wanted = (whole.status, said + b"#" * (size - len(said))) if fits else (SHORT, b"#" * size)
+            tally.check(f"{words} in {size} bytes", (end.status, room.raw) == wanted and end.length == len(said), f"{end.status} {room.raw!r}")
+
+
+def built(folder: Path, words: list) -> Path:
+    """The program of C over the library that is linked, with these words to the compiler."""
+    made = folder / f"library{len(words)}"
+    subprocess.run(["cc", "-O2", "-Wall", "-Wextra", "-Werror", *words, str(HERE / "library.c"), str(folder / "libdomepeeler.a"), "-o", str(made), "-pthread"],
+                   check=True)
+    return made
+
+
+def in_c(tally: Tally, folder: Path) -> None:
+    """Refused memory, threads, and a million calls, by C."""
+    cycle = (ROOT / "examples" / "libinfinity_three_way_cycle.trace").read_bytes()
+    refusing = built(folder, ["-DREFUSES", "-Wl,--wrap=malloc,--wrap=realloc,--wrap=free"])
+    for name, text in ("three-way cycle", cycle), ("accepted", (ROOT / "examples" / "crdts_accepted.trace").read_bytes()), ("no trace", b"trace 3\n"):
+        done = subprocess.run([str(refusing), "refuse"], input=text, capture_output=True)
+        counts = [[int(count) for count in line.split()] for line in done.stdout.splitlines()] if done.returncode == 0 else []
+        wanted = len(counts) == 3 and all(made >= (10 if name != "no trace" else 1) and without <= made // 10 for made, without in counts)
+        tally.check(f"refused memory, {name}", wanted, f"{done.returncode} {done.stdout!r}")
+        print(f"{name}: requests for memory refused in turn, and those without which the call answered all the same: {counts}")
+    plain = built(folder, [])
+    done = subprocess.run([str(plain), "threads"], input=cycle, capture_output=True)
+    tally.check("16 threads, 100,000 sessions", done.returncode == 0, done)
+    done = subprocess.run([str(plain), "flat"], input=cycle, capture_output=True)
+    tally.check("a million calls", done.returncode == 0 and int(done.stdout) <= MOST_KILOBYTES, done)
+
+
+def names(tally: Tally, folder: Path) -> None:
+    """What the linker sees of either library."""
+    for words in ["-D", str(folder / "libdomepeeler.so.0")], [str(folder / "libdomepeeler.a")]:
+        told = subprocess.run(["nm", "--defined-only", "--extern-only", *words], capture_output=True, text=True, check=True).stdout
+        found = sorted(line.split()[-1] for line in told.splitlines() if " T " in line or " D " in line or " B " in line)
+        tally.check(f"names of {words[-1]}", found == NAMES, found)
+
+
+def main() -> None:
+    program = program_of(sys.argv)
+    need("cc", "gcc")
+    rnd, tally = random.Random(SEED), Tally()
+    with tempfile.TemporaryDirectory() as name:
+        folder = Path(name)
+        subprocess.run([str(ROOT / "tools" / "library"), name], check=True)
+        library, quick = Library(folder / "libdomepeeler.so.0"), Quick(program)
+        names(tally, folder)
+        end = library.loaded.domepeeler_version(library.room, ctypes.c_size_t(len(library.room)))
+        said = f"domepeeler {library.room.raw[:end.length].decode()}\n".encode()
+        tally.same("the version", Ended(end.status, said, b""), quick.run(["--version"]))
+        vectors(tally, library)
+        for place, text in enumerate(texts(rnd)):
+            compared(tally, library, quick, f"text {place}", text)
+        generated(tally, library, quick, rnd)
+        for path in "examples/prosemirror_cycle_of_four.trace", "examples/insert_delete_read.trace":
+            short_rooms(tally, library, (ROOT / path).read_bytes())
+        short_rooms(tally, library, b"trace 1\nreplicas 1\n0 del\n")
+        in_c(tally, folder)
+    tally.close()
+
+
+if __name__ == "__main__":
+    main()
