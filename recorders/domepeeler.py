@@ -43,6 +43,7 @@ import mmap
 import os
 import random
 import re
+import shutil
 import stat
 import subprocess
 import sys
@@ -82,6 +83,8 @@ STATEMENT = re.compile(r"^(  stop before line (\d+) of the trace, .*)\n  In [A-Z
 MOST_WARNED = 5  # deletes, or inserts, that are warned of one by one
 MOST_CHANGES = 3  # that are warned of one by one of those that a replica lacks, or has made nothing of
 
+LIBRARY = "lib/domepeeler/libdomepeeler.so.0"  # below the folder whose bin has the program
+_PROCESS = os.getpid()  # that may judge by the library; one that is forked from it asks the program
 MOST_SHARED = 1 << 20  # recordings of a process that have a byte of their own of what it shares
 # By process that began recordings, which alone sets bytes back: what it shares with those forked from it, a byte for each of its recordings, of
 # whether these recorded into a copy.
@@ -116,6 +119,8 @@ class NotCausal(Refused):
 
 class Report(Dict[str, Any]):
     """The program's report. Whether it is there says nothing of the verdict, so it is neither true nor false."""
+
+    judged_by = ""  # the name of the program, or the path of the library, that judged
 
     def __bool__(self) -> bool:
         raise TypeError("a report says by its `verdict` and `warnings` whether the recording is right, and is neither true nor false itself")
@@ -415,18 +420,25 @@ class Recording:
     @_alone
     def judge(self, program: Optional[Words] = None, weak: bool = False) -> Report:
         """The program's report on this recording, and as `warnings` what it may hide where it says `accepted`, or that weak holds,
-        asked for or not; and of any whether calls were refused. The program is the words that are given, that of $DOMEPEELER, or `domepeeler`."""
-        report = Report(self._report(program))
+        asked for or not; and of any whether calls were refused. The program is the words that are given, or that of $DOMEPEELER. Where neither
+        names one, the library judges in this process: that of $DOMEPEELER_LIBRARY, or the one that was installed with the `domepeeler` of the
+        PATH; but not in a forked process. Else it is `domepeeler`. The report's `judged_by` says which it was."""
+        report = self._report(program)
         is_passing = report["verdict"] == "accepted" or report.get("weak") is True
         report["warnings"] = self.warnings() if is_passing else self._refusals()
         return report
 
-    def _report(self, program: Optional[Words] = None) -> Dict[str, Any]:
-        """The program's report on this recording."""
-        name, done = self._ask(program, "DOMEPEELER", "domepeeler", "the program's", ["verdict", "--json", "-"])
+    def _report(self, program: Optional[Words] = None) -> Report:
+        """The program's report on this recording, or the library's."""
+        here = None if program or os.environ.get("DOMEPEELER") or self._only is not None else _library()
+        if here is not None and os.getpid() == _PROCESS:
+            name, done = here(self._text().encode())
+        else:
+            name, done = self._ask(program, "DOMEPEELER", "domepeeler", "the program's", ["verdict", "--json", "-"])
         if done.returncode not in (0, 1) or not done.stdout.startswith(b"{"):
             _ended(name, done, "report")
-        report = _report_in(name, done.stdout)
+        report = Report(_report_in(name, done.stdout))
+        report.judged_by = name
         is_accepted, operations = report["verdict"] == "accepted", sum(one.operations for one in self._replicas)
         if is_accepted != (done.returncode == 0) or report.get("operations") != operations:
             raise RuntimeError(f"{_escaped(name)} ended with status {done.returncode} and printed a report that is not on this recording")
@@ -1125,6 +1137,47 @@ def _check_id(change_id: Any) -> None:
 
 def _quoted(change_id: Hashable) -> str:
     return f'"{_escaped(change_id)}"' if isinstance(change_id, str) else _escaped(repr(change_id))
+
+
+@lru_cache(maxsize=None)
+def _library() -> Optional[Callable[[bytes], Tuple[str, subprocess.CompletedProcess[bytes]]]]:
+    """A call that judges a trace in this process by the library, and answers the library's path and what the program would end with; none where
+    there is no library."""
+    import ctypes  # which takes a while, and is not wanted by who only records
+
+    asked = os.environ.get("DOMEPEELER_LIBRARY")
+    program = shutil.which("domepeeler")
+    path = asked or os.path.join(os.path.dirname(os.path.dirname(os.path.realpath(program or ""))), LIBRARY)
+    if not asked and (program is None or not os.path.isfile(path)):
+        return None
+    try:
+        loaded = ctypes.CDLL(path)
+    except OSError as why:
+        raise RuntimeError(f"{_escaped(path)} cannot be loaded: {_escaped(str(why))}") from None
+
+    class End(ctypes.Structure):
+        """`struct domepeeler_end` of domepeeler_judge.h."""
+
+        _fields_ = [("status", ctypes.c_uint32), ("line", ctypes.c_uint32), ("length", ctypes.c_size_t)]
+
+    verdict = loaded.domepeeler_verdict
+    verdict.argtypes = [ctypes.c_char_p, ctypes.c_size_t, ctypes.c_uint32, ctypes.c_char_p, ctypes.c_size_t]
+    verdict.restype = End
+
+    def judged(text: bytes) -> Tuple[str, subprocess.CompletedProcess[bytes]]:
+        size = 4096
+        while True:
+            room = ctypes.create_string_buffer(size)
+            end = verdict(text, len(text), 1, room, size)
+            if end.status != 4:  # the room is long enough
+                break
+            size = end.length
+        said = room.raw[:end.length]
+        if end.status in (0, 1):
+            return path, subprocess.CompletedProcess([path], end.status, said, b"")
+        return path, subprocess.CompletedProcess([path], end.status, b"", b"finder: " + (said or b"memory"))
+
+    return judged
 
 
 def _beside_program(command: str) -> str:

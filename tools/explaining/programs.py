@@ -13,6 +13,7 @@ from typing import NamedTuple
 
 from .commands import Starting, Stopped
 from .files import shown
+from .library import library_beside
 
 VARIABLE = "DOMEPEELER"
 MOST_OF_VERSION = 60  # seconds in which a program says its version
@@ -27,7 +28,8 @@ BESIDE = [REPOSITORY / "crates/finder_cli/out/finder_cli", PREFIX / "bin" / COMM
 GUIDES = [REPOSITORY / "docs/recording.md", PREFIX / "share/domepeeler/docs/recording.md"]
 GUIDE = next(filter(Path.is_file, GUIDES), GUIDES[0])
 WAYS = (f"The program is the one that --program names; else that of the variable {VARIABLE}; else `{COMMAND}` on the PATH; "
-        "else the one that was built in this repository, or installed beside this tool.")
+        "else the one that was built in this repository, or installed beside this tool. Where no user names one, the library beside this tool "
+        "judges short traces, if it is installed.")
 
 
 STOPPED = "the user has stopped this"
@@ -52,6 +54,17 @@ class NoProgram(Exception):
     """There is no program to ask."""
 
 
+class Here:
+    """Of the program that was found where no user named one: the library beside it, which judges short traces in this process."""
+
+    program, library = "", None
+
+    @classmethod
+    def judged(cls, program: str, trace: bytes) -> tuple[int, bytes, bytes] | None:
+        """The status, the report as JSON and the line on standard error with which the program would end; none where it is to be asked."""
+        return cls.library(trace) if cls.library is not None and program == cls.program else None
+
+
 class Judged(NamedTuple):
     """How the program ended: its exit status, its report where it has one, and its line on standard error."""
 
@@ -69,12 +82,11 @@ def find_program(asked: str | None) -> str:
                 raise NoProgram(f"can't run {shown(named)}, which {way} names")
             return os.path.abspath(found)
     found = shutil.which(COMMAND)
-    if found is not None:
-        return os.path.abspath(found)
-    for path in BESIDE:
-        if os.access(path, os.X_OK):
-            return str(path)
-    raise NoProgram(f"no program found. {WAYS}")
+    Here.program = next((str(path) for path in BESIDE if os.access(path, os.X_OK)), "") if found is None else os.path.abspath(found)
+    if not Here.program:
+        raise NoProgram(f"no program found. {WAYS}")
+    Here.library = library_beside()
+    return Here.program
 
 
 def run(program: str, words: list, trace: bytes, seconds: float | None = None) -> subprocess.CompletedProcess:
@@ -108,14 +120,18 @@ def finished(program: str, words: list, trace: bytes, seconds: float | None) -> 
 
 def judge(program: str, trace: bytes) -> Judged:
     """What the program says of a trace; NoProgram where that is nothing that domepeeler says, or it was ended."""
-    done = run(program, ["verdict", "--json", "-"], trace)
-    error = done.stderr.decode(errors="replace").rstrip("\n")
-    report = report_in(done.returncode, done.stdout)
-    if report is None and is_another(done.returncode, error):
-        raise NoProgram(no_report(program, done.returncode, error))
+    here = Here.judged(program, trace)
+    if here is None:
+        done = run(program, ["verdict", "--json", "-"], trace)
+        here = done.returncode, done.stdout, done.stderr
+    status, printed, errors = here
+    error = errors.decode(errors="replace").rstrip("\n")
+    report = report_in(status, printed)
+    if report is None and is_another(status, error):
+        raise NoProgram(no_report(program, status, error))
     if report is not None and not is_of(report, trace):
         raise NoProgram(of_another_trace(program))
-    return Judged(done.returncode, report, error)
+    return Judged(status, report, error)
 
 
 def check_is_domepeeler(program: str) -> None:
