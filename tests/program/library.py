@@ -1,14 +1,17 @@
 #!/usr/bin/env python3
 """library.py PROGRAM: libdomepeeler beside the program: the same bytes and the same status, for the vectors, for the examples, for each of them
 cut and changed, and for 10,000 generated recordings; rooms that are too short; 16 threads at once; a million calls; each request for memory
-refused in turn; the names that the library shows.
+refused in turn; the names that the library shows; the program of docs/library.md, Python's recorder and the tools by it; the fuzzer of the examples.
 
 The library is made anew by `tools/library` of what `rt lib` left in crates/domepeeler/out. Vectors have answers of their own, by the slow
 reference."""
 from __future__ import annotations
 
 import ctypes
+import json
+import os
 import random
+import re
 import subprocess
 import sys
 import tempfile
@@ -151,6 +154,68 @@ def in_c(tally: Tally, folder: Path) -> None:
     tally.check("a million calls", done.returncode == 0 and int(done.stdout) <= MOST_KILOBYTES, done)
 
 
+def page(tally: Tally, program: str, folder: Path) -> None:
+    """The program of docs/library.md, built as the page says against what `tools/install` has put there: as C and as C++."""
+    text = (ROOT / "docs" / "library.md").read_text()
+    source = re.search(r"```c\n(.*?)```", text, re.DOTALL)[1]
+    said = re.search(r"\./a\.out\n((?:    .*\n)+)", text)[1].replace("    ", "")
+    prefix = folder / "prefix"
+    subprocess.run([str(ROOT / "tools" / "install"), str(prefix)], check=True, stdout=subprocess.DEVNULL, env=os.environ | {"DOMEPEELER": program})
+    path = os.environ | {"PKG_CONFIG_PATH": str(prefix / "share" / "pkgconfig")}
+    flags = subprocess.run(["pkg-config", "--cflags", "--libs", "domepeeler"], env=path, capture_output=True, text=True, check=True).stdout.split()
+    for compiler, suffix in ("cc", "c"), ("c++", "cc"):
+        (folder / f"session.{suffix}").write_text(source)
+        made = subprocess.run([compiler, "-Wall", "-Wextra", "-Werror", str(folder / f"session.{suffix}"), *flags, "-o", str(folder / "a.out")])
+        done = subprocess.run([str(folder / "a.out")], capture_output=True, text=True)
+        tally.check(f"the page's program by {compiler}", (made.returncode, done.returncode, done.stdout) == (0, 1, said), done)
+    # A word of Python, and the tools, by what was installed.
+    asked = {name: value for name, value in os.environ.items() if not name.startswith("DOMEPEELER")} | {"PATH": f"{prefix}/bin:{os.environ['PATH']}"}
+    words = "from domepeeler import Recording; r = Recording(1); r.insert(0, 'a', 0, ['a']); report = r.judge(); print(report['verdict'], report.judged_by)"
+    for more, by in ({}, f"{prefix}/lib/domepeeler/libdomepeeler.so.0"), ({"DOMEPEELER": program}, program):
+        done = subprocess.run([sys.executable, "-c", words], cwd=ROOT / "recorders", env=asked | more, capture_output=True, text=True)
+        tally.check("Python's recorder says who judged", done.stdout == f"accepted {by}\n", done)
+    child = ("import os, sys; from domepeeler import Recording\nif os.fork(): sys.exit(os.waitstatus_to_exitcode(os.wait()[1]))\n"
+             "r = Recording(1); r.insert(0, 'a', 0, ['a']); print(r.judge().judged_by)")
+    done = subprocess.run([sys.executable, "-c", child], cwd=ROOT / "recorders", env=asked, capture_output=True, text=True)
+    tally.check("in a forked process the program judges", done.stdout == "domepeeler\n", done)
+    done = subprocess.run([sys.executable, "-c", words], cwd=ROOT / "recorders", env=asked | {"DOMEPEELER_LIBRARY": "/nowhere/x.so"}, capture_output=True, text=True)
+    tally.check("a library that is not there", done.returncode == 1 and "/nowhere/x.so cannot be loaded" in done.stderr, done)
+
+
+def many(tally: Tally, program: str, folder: Path, rnd: random.Random) -> None:
+    """`tools/judge_many` and `tools/explain`, as installed beside the library, and by the program: the same words."""
+    traces, tools = folder / "traces", folder / "prefix" / "bin"
+    traces.mkdir()
+    for case in range(60):
+        text = session(rnd, case % 2 == 0)
+        (traces / f"{case}.trace").write_text(with_fault(rnd, text, case % 2 == 0) if case % 3 == 0 else text)
+    (traces / "cut.trace").write_text("trace 1\nreplicas 1\n0 ins a 0 : a")
+    asked = {name: value for name, value in os.environ.items() if not name.startswith("DOMEPEELER")} | {"PATH": f"{tools}:{os.environ['PATH']}"}
+    both = [subprocess.run(["domepeeler-judge-many", "--json", *words, str(traces)], env=asked, capture_output=True, text=True)
+            for words in ([], ["--program", program])]
+    rows = [[{key: value for key, value in json.loads(line).items() if key != "seconds"} for line in done.stdout.splitlines()] for done in both]
+    by_name = [sorted(found, key=str) for found in rows]
+    tally.check("judge_many", by_name[0] == by_name[1] and len(by_name[0]) >= 61 and both[0].returncode == both[1].returncode == 2, both)
+    for case in range(0, 60, 6):
+        told = [subprocess.run(["domepeeler-explain", *words, str(traces / f"{case}.trace")], env=asked, capture_output=True, text=True)
+                for words in ([], ["--program", program])]
+        tally.check(f"explain {case}", told[0].stdout == told[1].stdout != "" and told[0].returncode == told[1].returncode, told)
+
+
+def fuzzed(tally: Tally, folder: Path) -> None:
+    """The fuzzer of the examples finds the planted bug, and nothing where it is repaired."""
+    words = ["clang", "-O2", "-g", "-fsanitize=fuzzer", "-I", str(ROOT / "recorders"), str(ROOT / "examples" / "fuzz" / "fuzz.c"),
+             str(folder / "libdomepeeler.a"), "-o"]
+    subprocess.run([*words, str(folder / "fuzz")], check=True)
+    subprocess.run([*words, str(folder / "repaired"), "-DREPAIRED"], check=True)
+    for seed in 1, 2, 3:
+        done = subprocess.run([str(folder / "fuzz"), f"-seed={seed}", "-runs=2000000"], cwd=folder, capture_output=True, text=True, errors="replace")
+        tally.check(f"the fuzzer finds the bug, seed {seed}", done.returncode != 0 and re.search(r"^(refused|contents|position) ", done.stderr, re.MULTILINE) is not None,
+                    done.stderr[-2000:])
+    done = subprocess.run([str(folder / "repaired"), "-seed=1", "-runs=100000"], cwd=folder, capture_output=True, text=True, errors="replace")
+    tally.check("the fuzzer finds nothing where it is repaired", done.returncode == 0 and "Done 100000 runs" in done.stderr, done.stderr[-2000:])
+
+
 def names(tally: Tally, folder: Path) -> None:
     """What the linker sees of either library."""
     for words in ["-D", str(folder / "libdomepeeler.so.0")], [str(folder / "libdomepeeler.a")]:
@@ -161,7 +226,8 @@ def names(tally: Tally, folder: Path) -> None:
 
 def main() -> None:
     program = program_of(sys.argv)
-    need("cc", "gcc")
+    for command, package in ("cc", "gcc"), ("c++", "g++"), ("clang", "clang"), ("pkg-config", "pkg-config"):
+        need(command, package)
     rnd, tally = random.Random(SEED), Tally()
     with tempfile.TemporaryDirectory() as name:
         folder = Path(name)
@@ -179,6 +245,9 @@ def main() -> None:
             short_rooms(tally, library, (ROOT / path).read_bytes())
         short_rooms(tally, library, b"trace 1\nreplicas 1\n0 del\n")
         in_c(tally, folder)
+        page(tally, program, folder)
+        many(tally, program, folder, rnd)
+        fuzzed(tally, folder)
     tally.close()
 
 
