@@ -26,6 +26,7 @@ SCRIPTS = [
     ["tools/judge_many.py", PROGRAM],
     ["program/live.py", PROGRAM],
     ["tools/recorder_packages.py", PROGRAM],
+    ["program/library.py", PROGRAM],
     ["program/generated.py", PROGRAM],
     ["tools/engines.py", PROGRAM],
     ["memory/refused_calls.py", PROGRAM, "--few"],
@@ -47,8 +48,8 @@ SHORT = ["program/black_box.py", "program/large_cores.py", "program/mutated.py",
 # installs what it needs.
 PACKAGES = {
     "cargo": "cargo", "clang": "clang", "dpkg-dev": "dpkg-shlibdeps", "emacs-nox": "emacs", "fish": "fish", "g++": "g++", "gcc": "gcc",
-    "librust-proptest+std-dev": None, "lintian": "lintian", "man-db": "man", "node-prosemirror-transform": None, "node-yjs": None,
-    "nodejs": "node", "npm": "npm", "parallel": "parallel", "python3-hypothesis": None, "python3-pip": None, "python3-pytest": None,
+    "libclang-rt-14-dev": None, "librust-proptest+std-dev": None, "lintian": "lintian", "man-db": "man", "node-prosemirror-transform": None, "node-yjs": None,
+    "nodejs": "node", "npm": "npm", "parallel": "parallel", "pkg-config": "pkg-config", "python3-hypothesis": None, "python3-pip": None, "python3-pytest": None,
     "python3-pytest-xdist": None, "python3-setuptools": None, "python3-venv": None, "python3-wheel": None, "rsync": "rsync",
     "rust-clippy": "clippy-driver", "rustc": "rustc", "zsh": "zsh",
 }
