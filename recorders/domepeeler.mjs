@@ -366,7 +366,8 @@ export class Recording {
 
   /** A promise of the program's report on this recording, and as `warnings` what it may hide where it says `accepted`, or that weak holds,
    * asked for or not; and of any whether calls were refused. It answers, and never fails where the recording is wrong: look at the
-   * answer. The program is the words that are given, that of $DOMEPEELER, or `domepeeler`. */
+   * answer. The program is the words that are given, or that of $DOMEPEELER. Where neither names one, the library judges in this process: that of
+   * $DOMEPEELER_LIBRARY, or the one that was installed with the `domepeeler` of the PATH. Else it is `domepeeler`. `judgedBy` says which it was. */
   async judge(program = null, _goal = {}) {
     const report = this.#report(await modules(), program)
     const isPassing = report.verdict === "accepted" || report.weak === true
@@ -375,7 +376,9 @@ export class Recording {
 
   // The program's report on this recording.
   #report(node, program) {
-    const { name, done } = this.#ask(node, program, "DOMEPEELER", "domepeeler", "the program's", ["verdict", "--json", "-"])
+    const here = program || process.env.DOMEPEELER || this.#only !== null ? null : library(node)
+    const { name, done } = here ? { name: here.path, done: here.verdict(this.#text()) }
+      : this.#ask(node, program, "DOMEPEELER", "domepeeler", "the program's", ["verdict", "--json", "-"])
     if ((done.status !== 0 && done.status !== 1) || !done.stdout.startsWith("{")) throw ended(name, done, "report")
     const report = reportIn(name, done.stdout)
     const isAccepted = report.verdict === "accepted"
@@ -383,7 +386,7 @@ export class Recording {
     if (isAccepted !== (done.status === 0) || report.operations !== operations)
       throw new Error(`${escaped(name)} ended with status ${done.status} and printed a report that is not on this recording`)
     unread.delete(this.#number)
-    return report
+    return { ...report, judgedBy: name }
   }
 
   // Records by this function what the editor answered; where that is asked for, the session up to it is judged. An error begins at the
@@ -778,6 +781,9 @@ export class Recording {
   }
 }
 
+const ADDON = "domepeeler.node" // the library for Node.js, beside the one that $DOMEPEELER_LIBRARY names
+let loaded = null // with what was asked for
+
 // What judging takes of Node.js.
 async function modules() {
   const [childProcess, fs, os, path, url] = await Promise.all(
@@ -1108,6 +1114,31 @@ function checkId(changeId) {
   if (typeof changeId !== "string" && typeof changeId !== "number") {
     throw new Refused(`an id of a change is a string or a number, not ${told(changeId)}`)
   }
+}
+
+// The library that judges in this process, and its path; null where there is none.
+function library({ fs, path: { delimiter, dirname, join } }) {
+  const asked = process.env.DOMEPEELER_LIBRARY ?? "", on = process.env.PATH ?? ""
+  if (loaded?.asked === asked && loaded.on === on) return loaded.library
+  loaded = { asked, on, library: null }
+  const program = on.split(delimiter).map((folder) => join(folder, "domepeeler")).find((file) => {
+    try {
+      fs.accessSync(file, fs.constants.X_OK)
+      return fs.statSync(file).isFile()
+    } catch {
+      return false
+    }
+  })
+  const path = asked ? join(dirname(asked), ADDON) : program ? join(dirname(dirname(fs.realpathSync(program))), "lib", "domepeeler", ADDON) : ""
+  if (!asked && !(path && fs.existsSync(path))) return null
+  try {
+    const module = { exports: {} }
+    process.dlopen(module, path)
+    loaded.library = { path, verdict: (text) => module.exports.verdict(text) }
+  } catch (why) {
+    if (asked) throw new Error(`${escaped(path)} cannot be loaded: ${escaped(why.message)}`)
+  }
+  return loaded.library
 }
 
 // The command's path where it lies beside the program of $DOMEPEELER; else the command.

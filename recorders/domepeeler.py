@@ -1153,6 +1153,8 @@ def _library() -> Optional[Callable[[bytes], Tuple[str, subprocess.CompletedProc
     try:
         loaded = ctypes.CDLL(path)
     except OSError as why:
+        if not asked:
+            return None
         raise RuntimeError(f"{_escaped(path)} cannot be loaded: {_escaped(str(why))}") from None
 
     class End(ctypes.Structure):

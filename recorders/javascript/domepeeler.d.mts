@@ -22,6 +22,8 @@ export interface Report {
   weak?: boolean
   /** What the verdict may hide where it is accepted, or weak holds; else that calls were refused. */
   warnings: string[]
+  /** The name of the program, or the path of the library, that judged. */
+  judgedBy: string
   [field: string]: unknown
 }
 

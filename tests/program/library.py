@@ -174,12 +174,58 @@ def page(tally: Tally, program: str, folder: Path) -> None:
     for more, by in ({}, f"{prefix}/lib/domepeeler/libdomepeeler.so.0"), ({"DOMEPEELER": program}, program):
         done = subprocess.run([sys.executable, "-c", words], cwd=ROOT / "recorders", env=asked | more, capture_output=True, text=True)
         tally.check("Python's recorder says who judged", done.stdout == f"accepted {by}\n", done)
+    (folder / "judged.mjs").write_text(f"""import {{ Recording }} from "{ROOT / 'recorders' / 'domepeeler.mjs'}"
+const recording = new Recording(1)
+recording.insert(0, "a", 0, ["a"])
+const {{ verdict, judgedBy }} = await recording.judge()
+console.log(verdict, judgedBy)
+""")
+    for more, by in ({}, f"{prefix}/lib/domepeeler/domepeeler.node"), ({"DOMEPEELER": program}, program):
+        done = subprocess.run(["node", str(folder / "judged.mjs")], env=asked | more, capture_output=True, text=True)
+        tally.check("JavaScript's recorder says who judged", done.stdout == f"accepted {by}\n", done)
+    done = subprocess.run(["node", str(folder / "judged.mjs")], env=asked | {"DOMEPEELER_LIBRARY": "/nowhere/x.so"}, capture_output=True, text=True)
+    tally.check("a library for Node.js that is not there", done.returncode == 1 and "/nowhere/domepeeler.node cannot be loaded" in done.stderr, done)
+    by_addon(tally, folder, prefix / "lib" / "domepeeler" / "domepeeler.node")
     child = ("import os, sys; from domepeeler import Recording\nif os.fork(): sys.exit(os.waitstatus_to_exitcode(os.wait()[1]))\n"
              "r = Recording(1); r.insert(0, 'a', 0, ['a']); print(r.judge().judged_by)")
     done = subprocess.run([sys.executable, "-c", child], cwd=ROOT / "recorders", env=asked, capture_output=True, text=True)
     tally.check("in a forked process the program judges", done.stdout == "domepeeler\n", done)
     done = subprocess.run([sys.executable, "-c", words], cwd=ROOT / "recorders", env=asked | {"DOMEPEELER_LIBRARY": "/nowhere/x.so"}, capture_output=True, text=True)
     tally.check("a library that is not there", done.returncode == 1 and "/nowhere/x.so cannot be loaded" in done.stderr, done)
+
+
+def by_addon(tally: Tally, folder: Path, addon: Path) -> None:
+    """The addon of Node.js answers as the program would, on the vectors, on what is no trace, and on a report that is longer than its first room; and
+    refuses what is no text."""
+    (folder / "addon.cjs").write_text("""const addon = require(process.argv[2]), { readFileSync } = require("node:fs")
+for (const file of process.argv.slice(3)) console.log(JSON.stringify(addon.verdict(readFileSync(file, "utf8"))))
+for (const wrong of [[], [1], [null]]) {
+  try {
+    addon.verdict(...wrong)
+  } catch (why) {
+    console.log(why.message)
+  }
+}
+""")
+    long = ["trace 1", "replicas 1"] + [f"0 ins {'n' * 26}{n:06} {n} : " + " ".join(f"{'n' * 26}{m:06}" for m in range(n + 1)) for n in range(300)]
+    (folder / "long.trace").write_text("\n".join(long) + "\n")
+    (folder / "none.trace").write_text("trace 3\n")
+    files = [*sorted((ROOT / "tests" / "vectors").glob("*.trace")), folder / "long.trace", folder / "none.trace"]
+    done = subprocess.run(["node", str(folder / "addon.cjs"), str(addon), *map(str, files)], capture_output=True, text=True)
+    lines = done.stdout.splitlines()
+    wanted = []
+    for file in files[:-2]:
+        report = file.with_suffix(".json")
+        if report.exists():
+            wanted.append({"status": int(file.with_suffix(".status").read_text()), "stdout": report.read_text(), "stderr": ""})
+        else:
+            wanted.append(None)
+    for file, line, answer in zip(files, lines, wanted):
+        tally.check(f"the addon on {file.name}", answer is None or json.loads(line) == answer, line)
+    whole = json.loads(lines[-5]) if len(lines) == len(files) + 3 else {}
+    tally.check("the addon on a long report", whole.get("status") == 0 and len(json.loads(whole["stdout"])["order"]) == 300, lines[-5:])
+    tally.check("the addon on no trace, and on no text", [json.loads(line) for line in lines[-4:-3]] == [
+        {"status": 2, "stdout": "", "stderr": "finder: line 1: header"}] and lines[-3:] == ["verdict wants a trace's text"] * 3, lines[-4:])
 
 
 def many(tally: Tally, program: str, folder: Path, rnd: random.Random) -> None:
@@ -226,7 +272,7 @@ def names(tally: Tally, folder: Path) -> None:
 
 def main() -> None:
     program = program_of(sys.argv)
-    for command, package in ("cc", "gcc"), ("c++", "g++"), ("clang", "clang"), ("pkg-config", "pkg-config"):
+    for command, package in ("cc", "gcc"), ("c++", "g++"), ("clang", "clang"), ("pkg-config", "pkg-config"), ("node", "nodejs"):
         need(command, package)
     rnd, tally = random.Random(SEED), Tally()
     with tempfile.TemporaryDirectory() as name:
