@@ -22,8 +22,8 @@ extern "C" {
 #endif
 
 enum {
-    DOMEPEELER_ACCEPTED = 0,     /* the exit status of the command: some order has all responses */
-    DOMEPEELER_NOT_ACCEPTED = 1, /* a fault, or no order has all responses */
+    DOMEPEELER_ACCEPTED = 0,     /* as the exit status of the command: some order has all responses; of verify: yes */
+    DOMEPEELER_NOT_ACCEPTED = 1, /* a fault, or no order has all responses; of verify: no */
     DOMEPEELER_NO_RECORDING = 2, /* the text is no trace: `line` is the first faulty line, and the output says why */
     DOMEPEELER_NO_MEMORY = 3,    /* malloc() failed: there is no output */
     DOMEPEELER_SHORT = 4         /* the room has fewer than `length` bytes: nothing was written */
@@ -42,6 +42,9 @@ struct domepeeler_end domepeeler_verdict(const char *trace, size_t trace_length,
 
 /* The certificate that `domepeeler cert` writes for this trace. */
 struct domepeeler_end domepeeler_cert(const char *trace, size_t trace_length, char *output, size_t room);
+
+/* The line that `domepeeler verify` writes for a trace and a certificate: status 0 for a yes, and 1 for a no, also where a text does not read. */
+struct domepeeler_end domepeeler_verify(const char *trace, size_t trace_length, const char *cert, size_t cert_length, char *output, size_t room);
 
 /* The version of the library, as "0.2.0". */
 struct domepeeler_end domepeeler_version(char *output, size_t room);

@@ -1,7 +1,7 @@
 /* Calls libdomepeeler with a trace on standard input.
  *
  * refuse: refuses each request for memory in turn, and wants out of memory each time and an untouched room, or the same answer where the call can do
- * without, and nothing left that was not given back; linked with --wrap=malloc, --wrap=realloc and --wrap=free. Prints for each of the three calls
+ * without, and nothing left that was not given back; linked with --wrap=malloc, --wrap=realloc and --wrap=free. Prints for each of the four calls
  * how many requests it made, and without how many of them it answered.
  * threads: 16 threads judge the trace, 6,250 times each; each report must be that of the first call.
  * flat: a million reports, and how much more memory the process had at its most than after the first thousand, in kilobytes. */
@@ -41,7 +41,11 @@ void __wrap_free(void *old) {
     __real_free(old);
 }
 
+static char cert[ROOM];
+static size_t cert_length;
+
 static struct domepeeler_end call(int which, char *room) {
+    if (which == 3) return domepeeler_verify(trace, trace_length, cert, cert_length, room, ROOM);
     if (which == 2) return domepeeler_cert(trace, trace_length, room, ROOM);
     return domepeeler_verdict(trace, trace_length, (uint32_t)which, room, ROOM);
 }
@@ -113,7 +117,8 @@ int main(int count, char **words) {
     struct domepeeler_end end = domepeeler_verdict(trace, trace_length, 0, first, sizeof first);
     if (count != 2 || end.status > 2) return 2;
 #ifdef REFUSES
-    if (strcmp(words[1], "refuse") == 0) return refuse(0) || refuse(1) || refuse(2);
+    cert_length = domepeeler_cert(trace, trace_length, cert, sizeof cert).length;
+    if (strcmp(words[1], "refuse") == 0) return refuse(0) || refuse(1) || refuse(2) || refuse(3);
 #endif
     return strcmp(words[1], "threads") == 0 ? threads() : strcmp(words[1], "flat") == 0 ? flat() : 2;
 }

@@ -15,6 +15,7 @@ import re
 import subprocess
 import sys
 import tempfile
+from collections import Counter
 from pathlib import Path
 
 ROOT = Path(__file__).resolve().parents[2]
@@ -25,7 +26,7 @@ from shared.sessions import session, with_fault  # noqa: E402
 SEED = 20261201
 CASES = 10_000
 NO_RECORDING, NO_MEMORY, SHORT = 2, 3, 4
-NAMES = ["domepeeler_cert", "domepeeler_verdict", "domepeeler_version"]
+NAMES = ["domepeeler_cert", "domepeeler_verdict", "domepeeler_verify", "domepeeler_version"]
 HERE = Path(__file__).resolve().parent
 MOST_KILOBYTES = 256  # that a million calls may add
 
@@ -59,6 +60,14 @@ class Library:
         if end.status == NO_RECORDING:
             return Ended(2, b"", b"finder: " + said + b"\n"), end.line
         return Ended(end.status, said, b""), end.line
+
+
+    def verify(self, trace: bytes, cert: bytes, size: int = 256) -> tuple[int, int, bytes]:
+        """The status, the length, and the room."""
+        room = (ctypes.c_char * size)(*([b"#"] * size))
+        end = self.loaded.domepeeler_verify(ctypes.c_char_p(trace), ctypes.c_size_t(len(trace)), ctypes.c_char_p(cert), ctypes.c_size_t(len(cert)),
+                                            room, ctypes.c_size_t(size))
+        return end.status, end.length, room.raw
 
 
 COMMANDS = ["verdict", "-"], ["verdict", "--json", "-"], ["cert", "-"]
@@ -116,6 +125,28 @@ def generated(tally: Tally, library: Library, quick: Quick, rnd: random.Random) 
         compared(tally, library, quick, f"case {case}", text.encode(), COMMANDS if case % 10 == 0 else COMMANDS[:1])
 
 
+def verified(tally: Tally, library: Library, quick: Quick, folder: Path, rnd: random.Random) -> None:
+    """Certificates of the vectors, right ones, changed ones, and those of other traces, beside the program: the same line and status, also in a room
+    that is too short."""
+    traces = sorted((ROOT / "tests" / "vectors").glob("*.trace"))
+    certs = [cert for trace in traces for cert in (trace.with_suffix(".cert1"), trace.with_suffix(".cert2")) if cert.exists()]
+    file, kinds = folder / "one.cert", Counter()
+    for case, cert in enumerate(certs + certs + rnd.sample(certs, len(certs) // 4)):
+        trace = (cert.with_suffix(".trace") if case < 2 * len(certs) else rnd.choice(traces)).read_bytes()
+        text = cert.read_bytes() if case < len(certs) or case >= 2 * len(certs) else changed(rnd, cert.read_bytes())
+        if case % 7 == 6:
+            trace = changed(rnd, trace) if trace else trace
+        file.write_bytes(text)
+        wanted = quick.run(["verify", "-", str(file)], trace)
+        status, length, room = library.verify(trace, text)
+        tally.check(f"verify {cert.name} {case}", (status, room) == (wanted.status, wanted.out + b"#" * (256 - length)) and length == len(wanted.out),
+                    f"{status} {room!r}, not {wanted}")
+        tally.check("verify in a short room", library.verify(trace, text, length - 1) == (SHORT, length, b"#" * (length - 1)))
+        kinds[b" ".join(wanted.out.split()[:2]).decode()] += 1
+    print(f"verify: {dict(kinds)}")
+    tally.check("certificates of each kind", len(kinds) >= 8 and kinds["no trace"] >= 3 and kinds["no text"] >= 10, kinds)
+
+
 def short_rooms(tally: Tally, library: Library, text: bytes) -> None:
     """Each room that is too short, and some that are not: what stands behind the output, or in a room that is too short, stays."""
     for words in COMMANDS:
@@ -144,7 +175,7 @@ def in_c(tally: Tally, folder: Path) -> None:
     for name, text in ("three-way cycle", cycle), ("accepted", (ROOT / "examples" / "crdts_accepted.trace").read_bytes()), ("no trace", b"trace 3\n"):
         done = subprocess.run([str(refusing), "refuse"], input=text, capture_output=True)
         counts = [[int(count) for count in line.split()] for line in done.stdout.splitlines()] if done.returncode == 0 else []
-        wanted = len(counts) == 3 and all(made >= (10 if name != "no trace" else 1) and without <= made // 10 for made, without in counts)
+        wanted = len(counts) == 4 and all(made >= (10 if name != "no trace" else 0) and without <= made // 10 for made, without in counts)
         tally.check(f"refused memory, {name}", wanted, f"{done.returncode} {done.stdout!r}")
         print(f"{name}: requests for memory refused in turn, and those without which the call answered all the same: {counts}")
     plain = built(folder, [])
@@ -284,6 +315,7 @@ def main() -> None:
         said = f"domepeeler {library.room.raw[:end.length].decode()}\n".encode()
         tally.same("the version", Ended(end.status, said, b""), quick.run(["--version"]))
         vectors(tally, library)
+        verified(tally, library, quick, folder, rnd)
         for place, text in enumerate(texts(rnd)):
             compared(tally, library, quick, f"text {place}", text)
         generated(tally, library, quick, rnd)

@@ -2,7 +2,8 @@
 use Rattle.std.specs.Prelude.{◌≡◌, ℕ, zero, suc, ◌<◌, ◌≤◌, ◌⊎◌, ◌++◌, List, drop, length}
 use Rattle.command_line.specs.declared.task.Form.{Form}
 use Rattle.command_line.specs.declared.task.Form.TheVariants.{Text, Json}
-use Rattle.engines.specs.Certified.{IsCertificateOn}
+use Rattle.engines.specs.Certified.{IsCertificateOn, IsLineOn}
+use Rattle.cert_check.specs.OutOfMemory as checker
 use Rattle.engines.specs.OutOfMemory.{TakesMemory}
 use Rattle.engines.specs.Runs.{IsLineFaultOf, IsReportOf, number_of_status}
 use Rattle.engines.specs.declared.status.Status.{Status}
@@ -47,3 +48,11 @@ IsCertificateEnd text old new end =
     ((output : List ℕ) × (status : Status) × IsCertificateOn text output status
     × IsPut output (number_of_status status) 0 old new end)
     ⊎ (IsFaulty text old new end ⊎ HasNoMemory text old new end)
+
+-- the line of the checker's answer on the two texts; or memory ran out, where some is taken for them
+abbrev pub IsLineEnd : List ℕ → List ℕ → List ℕ → List ℕ → DomepeelerEnd → Type 0
+IsLineEnd trace cert old new end =
+    ((line : List ℕ) × (status : Status) × IsLineOn trace cert line status
+    × IsPut line (number_of_status status) 0 old new end)
+    ⊎ (checker.TakesMemory trace cert × (end.status ≡ NO_MEMORY) × (end.line ≡ 0) × (end.length ≡ 0)
+    × (new ≡ old))

@@ -1,5 +1,5 @@
-//! The library for C, and for each language that calls C: what the commands `verdict` and `cert` write for a
-//! trace, made in the caller's process and thread.
+//! The library for C, and for each language that calls C: what the commands `verdict`, `cert` and `verify`
+//! write for texts, made in the caller's process and thread.
 //!
 //! - A call reads the trace and writes into the caller's room, and nothing else: calls share nothing, so they
 //!   may be made from many threads at once.
@@ -10,12 +10,16 @@
 
 ghost use Rattle.std.specs.Prelude.{◌≡◌, ◌⊎◌};
 ghost use Rattle.command_line.specs.declared.words.TheConstants.{VERSION};
-ghost use Rattle.domepeeler.specs.Ends.{HasNoMemory, IsCertificateEnd, IsFaulty, IsPut, IsReportEnd, form_of};
+ghost use Rattle.cert_check.specs.AnswerOf.{IsAnswer, IsReason};
+ghost use Rattle.domepeeler.specs.Ends.{HasNoMemory, IsCertificateEnd, IsFaulty, IsLineEnd, IsPut, IsReportEnd, form_of};
+ghost use Rattle.engines.specs.Certified.{status_of_answer};
+ghost use Rattle.engines.specs.Lines.{answer_line};
 ghost use Rattle.engines.specs.OutOfMemory.{TakesMemory};
 ghost use Rattle.engines.specs.Runs.{IsLineFaultOf, IsOfText, NamesFirstFault, number_of_status};
 
+use cert_check::{Answer, Reason, check_in_turn};
 use command_line::{Form, VERSION};
-use engines::{Output, RunFault, certificate_on_text, report_on_text};
+use engines::{Output, RunFault, certificate_on_text, line_of, report_on_text, status_of_answer};
 use std::alloc::Global;
 use trace_text::LineFault;
 
@@ -74,6 +78,25 @@ pub extern "C" fn domepeeler_cert(alloc: Global, trace: &[u8], output: &mut [u8]
     }
 }
 
+/// The checker's line on a trace and a certificate, as the command `verify` writes it. The status is 0 for a yes, and 1 for
+/// a no, also where a text does not read.
+///
+/// It costs what the command costs, but that the trace stands in memory whole.
+#[unsafe(no_mangle)]
+pub extern "C" fn domepeeler_verify(
+    alloc: Global,
+    trace: &[u8],
+    cert: &[u8],
+    output: &mut [u8],
+) -> DomepeelerEnd
+    ensures { IsLineEnd trace.now cert.now output.old output.new result }
+{
+    match check_in_turn(alloc, trace, cert) {
+        Ok(answer) => answer_end(alloc, trace, cert, &answer, output),
+        Err(_) => memory_end(),
+    }
+}
+
 /// The version of the library, as `0.2.0`, which is that of the program.
 #[unsafe(no_mangle)]
 pub extern "C" fn domepeeler_version(output: &mut [u8]) -> DomepeelerEnd
@@ -125,11 +148,7 @@ fn fault_end(alloc: Global, trace: &[u8], fault: RunFault, room: &mut [u8]) -> D
 {
     match fault {
         RunFault::Trace(wrong) => line_end(alloc, trace, &wrong, room),
-        RunFault::Memory => DomepeelerEnd {
-            status: NO_MEMORY,
-            line: 0,
-            length: 0,
-        },
+        RunFault::Memory => memory_end(),
         _ => unreachable!(),
     }
 }
@@ -142,5 +161,58 @@ fn line_end(alloc: Global, trace: &[u8], wrong: &LineFault, room: &mut [u8]) -> 
     match wrong.to_string(alloc) {
         Ok(words) => put(words.as_bytes(), NO_RECORDING, wrong.line, room),
         Err(_) => put(b"", NO_RECORDING, wrong.line, room),
+    }
+}
+
+/// How a call ends that found no memory.
+fn memory_end() -> DomepeelerEnd
+    ensures { (result.status ≡ NO_MEMORY) × (result.line ≡ 0) × (result.length ≡ 0) }
+{
+    DomepeelerEnd {
+        status: NO_MEMORY,
+        line: 0,
+        length: 0,
+    }
+}
+
+/// How a call ends with this answer of the checker. The texts serve the contract alone.
+fn answer_end(
+    alloc: Global,
+    trace: &[u8],
+    cert: &[u8],
+    answer: &Answer,
+    room: &mut [u8],
+) -> DomepeelerEnd
+    requires { IsAnswer trace.now cert.now answer.now }
+    ensures { IsLineEnd trace.now cert.now room.old room.new result }
+{
+    match answer {
+        Answer::Yes(_) => line_end_of(alloc, answer, room),
+        Answer::No(why) => no_end(alloc, trace, cert, why, room),
+    }
+}
+
+/// How a call ends with a no for this reason. The line for a text that does not read takes no memory. The texts serve
+/// the contract alone.
+fn no_end(alloc: Global, trace: &[u8], cert: &[u8], why: &Reason, room: &mut [u8]) -> DomepeelerEnd
+    requires { IsReason trace.now cert.now why.now }
+    ensures { IsLineEnd trace.now cert.now room.old room.new result }
+{
+    match why {
+        Reason::Trace => put(b"no trace\n", 1, 0, room),
+        Reason::CertText => put(b"no text\n", 1, 0, room),
+        _ => line_end_of(alloc, &Answer::No(*why), room),
+    }
+}
+
+/// The line of an answer in the room, if there is memory for it.
+fn line_end_of(alloc: Global, answer: &Answer, room: &mut [u8]) -> DomepeelerEnd
+    ensures { IsPut (answer_line answer.now) (number_of_status (status_of_answer answer.now)) 0 room.old
+        room.new result ⊎ ((result.status ≡ NO_MEMORY) × (result.line ≡ 0) × (result.length ≡ 0)
+        × (room.new ≡ room.old)) }
+{
+    match line_of(alloc, answer) {
+        Ok(line) => put(&line, status_of_answer(answer).number() as u32, 0, room),
+        Err(_) => memory_end(),
     }
 }

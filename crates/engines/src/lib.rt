@@ -5,6 +5,7 @@
 //!   it.
 //! - [`report_on_text`] and [`certificate_on_text`] do what [`run`] and [`run_cert`] do for a trace in memory, in
 //!   the caller's thread.
+//! - [`line_of`] is the line that [`run_verify`] writes for an answer, and [`status_of_answer`] its status.
 //! - [`recording_from`], [`verdict_on`], [`status_of`], [`Output`] and [`write_output`] are parts that the
 //!   engine `live` has too. That stands in `live_engine`, so this crate needs no sessions.
 #![tactic(auto)]
@@ -18,13 +19,14 @@ mod status;
 mod trace_source;
 mod verified;
 
+pub use answer_line::line_of;
 pub use certified::run_cert;
 pub use in_memory::{certificate_on_text, report_on_text};
 pub use output::{Output, status_of, verdict_on, write_output};
 pub use reported::run;
 pub use status::{RunFault, Status};
 pub use trace_source::recording_from;
-pub use verified::run_verify;
+pub use verified::{run_verify, status_of_answer};
 
 #[cfg(test)]
 mod tests;

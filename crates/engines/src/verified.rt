@@ -114,7 +114,7 @@ fn answer_on<H: Threads + Sync>(
 }
 
 /// Good exactly for a yes.
-fn status_of_answer(answer: &Answer) -> Status
+pub fn status_of_answer(answer: &Answer) -> Status
     ensures { result ≡ status_of_answer answer.now }
 {
     match answer {
