@@ -1077,8 +1077,8 @@ A view is none."
 (defun domepeeler--unshown (warned late)
   (cl-loop for (replica . news) in late
            for viewed = (domepeeler--entries-viewed (aref (domepeeler--warned-entries warned) replica))
-           collect (format "replica %d shows no list%s after its last receipt%s, of %s: let each replica read at the end"
-                           replica (if viewed " but a view" "") (if (cdr news) "s" "") (domepeeler--listed news))))
+           collect (format "replica %d shows no list%s after it received %s: let each replica read at the end"
+                           replica (if viewed " but a view" "") (domepeeler--listed news))))
 
 (defun domepeeler--news (recording warned replica)
   "The receipts since REPLICA's last list that bring changes.
@@ -1097,7 +1097,7 @@ Each is told with its line."
                              do (setq new t))
                     (setq has (cl-map 'vector #'max has past))
                     new)
-             collect (format "%d.%d (line %d)" author n line))))
+             collect (format "%d.%d (in line %d)" author n line))))
 
 (defun domepeeler--some (told what which)
   "The first that are TOLD, and how many more there are of WHAT, WHICH of them."

@@ -1296,12 +1296,12 @@ static inline void domepeeler_say_line(const struct domepeeler *d, struct domepe
     if (caller) domepeeler_say_place(said, caller, domepeeler_here(room, sizeof room));
 }
 
-/* Says the changes, the first of them by name, and how many more there are. */
-static inline void domepeeler_say_changes(const struct domepeeler *d, struct domepeeler_words *said, const struct domepeeler_event *changes,
-                                          size_t count) {
+/* Says the changes, the first of them by name with their lines, or with those `in ` which they came, and how many more there are. */
+static inline void domepeeler_say_changes(const struct domepeeler *d, struct domepeeler_words *said, const char *in,
+                                          const struct domepeeler_event *changes, size_t count) {
     size_t most = DOMEPEELER_CHANGES, told = count < most ? count : most, words = told + (count > told);
     for (size_t i = 0; i < told; i++) {
-        domepeeler_say(said, "%s%d.%u (line ", domepeeler_joint(i, words), changes[i].author, changes[i].n);
+        domepeeler_say(said, "%s%d.%u (%sline ", domepeeler_joint(i, words), changes[i].author, changes[i].n, in);
         domepeeler_say_line(d, said, changes[i].line);
         domepeeler_say(said, ")");
     }
@@ -1397,7 +1397,7 @@ static inline size_t domepeeler_say_lacked(const struct domepeeler_warned *w, st
         size_t said = 0;
         if (!counts[i] || like[i] != i) continue;
         domepeeler_say(never, "%s", told++ ? "; " : "");
-        domepeeler_say_changes(w->d, never, first[i], counts[i]);
+        domepeeler_say_changes(w->d, never, "", first[i], counts[i]);
         domepeeler_say(never, " never arrived at replica%s ", domepeeler_plural((size_t)alike[i]));
         for (int other = i; other < w->d->replicas; other++)
             if (like[other] == i) domepeeler_say(never, "%s%d", domepeeler_joint(said++, (size_t)alike[i]), other);
@@ -1523,9 +1523,8 @@ static inline void domepeeler_say_unshown(struct domepeeler_warned *w) {
         }
         if (!news) continue;
         entries->is_late = 1;
-        domepeeler_say(w->said, "replica %d shows no list%s after its last receipt%s, of ", i, entries->is_viewed ? " but a view" : "",
-                       domepeeler_plural(news));
-        domepeeler_say_changes(w->d, w->said, entries->arrived, news);
+        domepeeler_say(w->said, "replica %d shows no list%s after it received ", i, entries->is_viewed ? " but a view" : "");
+        domepeeler_say_changes(w->d, w->said, "in ", entries->arrived, news);
         domepeeler_say(w->said, ": let each replica read at the end\n");
     }
 }
@@ -1905,11 +1904,12 @@ static inline void domepeeler_say_named(const struct domepeeler *d, struct domep
 /* Says what is said, with the place behind each line that stands in brackets in what the verdict may hide. */
 static inline void domepeeler_say_with_places(const struct domepeeler *d, struct domepeeler_words *whole, const char *said) {
     const char *title = "\nWhat this verdict may hide\n", *at = strstr(said, title), *end = at ? strstr(at + strlen(title), "\n\n") : NULL;
-    for (at = at ? strstr(at, "(line ") : NULL; at && (!end || at < end); at = strstr(at + 1, "(line ")) {
+    for (at = at ? strstr(at, "line ") : NULL; at && (!end || at < end); at = strstr(at + 1, "line ")) {
         char *behind;
-        size_t line = isdigit((unsigned char)at[6]) ? strtoul(at + 6, &behind, 10) : 0;
+        int is_named = at[-1] == '(' || !strncmp(at - 4, "(in ", 4);
+        size_t line = is_named && isdigit((unsigned char)at[5]) ? strtoul(at + 5, &behind, 10) : 0;
         if (!line || *behind != ')') continue;
-        domepeeler_say(whole, "%.*s", (int)(at + 6 - said), said);
+        domepeeler_say(whole, "%.*s", (int)(at + 5 - said), said);
         domepeeler_say_line(d, whole, line);
         said = behind;
     }

@@ -60,7 +60,7 @@ const MOST_LACKED = 3 // changes that are warned of one by one of those that a r
 const LINE = /\bline (\d+)(?=[,):]| of the trace,| \(\d+ recv )/g // a line of the trace in the explainer's words
 const LAST = "\nThe list specifications\n" // the title of the last section there
 const WARNINGS = /^What this verdict may hide\n(?:  .*\n)*/m // a section there
-const NAMED = /\(line (\d+)\)/g // a line in a warning, whose place is put behind it
+const NAMED = /\((?:in )?line (\d+)\)/g // a line in a warning, whose place is put behind it
 // The statement for a debugger.
 const STATEMENT = /^(  stop before line (\d+) of the trace, .*)\n  In [A-Z][A-Za-z ]*, put this code right before .*\n.*/gm
 // A line of a stack, with the path or the URL of a file, and the line in it.
@@ -452,7 +452,7 @@ export class Recording {
     const callers = [...this.#callers], place = placing(node)
     return (warning) => warning.replace(NAMED, (all, line) => {
       const [nearest] = callers[line - HEAD_LINES - 1]
-      return nearest ? `(line ${line}, ${place(nearest)})` : all
+      return nearest ? `${all.slice(0, -1)}, ${place(nearest)})` : all
     })
   }
 
@@ -1039,14 +1039,14 @@ function receivedLast(ends) {
       const before = has
       has = most(has, ends[author].pasts[n - 1])
       return ends.some(({ changes }, other) => upTo(changes, has[other]) > upTo(changes, before[other]))
-    }).map(({ author, n, line }) => `${author}.${n} (line ${line})`)
+    }).map(({ author, n, line }) => `${author}.${n} (in line ${line})`)
     return pasts.length && news.length ? [[replica, news]] : []
   }))
 }
 
 function unshown(ends, late) {
-  return [...late].map(([replica, news]) => `replica ${replica} shows no list${ends[replica].isViewed ? " but a view" : ""} after its last ` +
-    `receipt${news.length === 1 ? "" : "s"}, of ${listing(news, news.length)}: let each replica read at the end`)
+  return [...late].map(([replica, news]) => `replica ${replica} shows no list${ends[replica].isViewed ? " but a view" : ""} after it received ` +
+    `${listing(news, news.length)}: let each replica read at the end`)
 }
 
 // The first of so many, and how many more there are.

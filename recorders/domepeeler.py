@@ -77,7 +77,7 @@ HEAD_LINES = 2  # of a trace, before its entries
 LINE = re.compile(r"\bline (\d+)(?=[,):]| of the trace,| \(\d+ recv )")  # a line of the trace in the explainer's words
 LAST = "\nThe list specifications\n"  # the title of the last section there
 WARNINGS = re.compile(r"^What this verdict may hide\n(?:  .*\n)*", re.MULTILINE)  # a section there
-NAMED = re.compile(r"\(line (\d+)\)")  # a line in a warning, whose place is put behind it
+NAMED = re.compile(r"\((?:in )?line (\d+)\)")  # a line in a warning, whose place is put behind it
 STATEMENT = re.compile(r"^(  stop before line (\d+) of the trace, .*)\n  In [A-Z][A-Za-z ]*, put this code right before .*\n.*",
                        re.MULTILINE)  # for a debugger
 MOST_WARNED = 5  # deletes, or inserts, that are warned of one by one
@@ -486,7 +486,7 @@ class Recording:
 
         def placed(said: re.Match[str]) -> str:
             callers = self._callers[int(said[1]) - HEAD_LINES - 1]
-            return f"(line {said[1]}, {_place(*callers[0], here)})" if callers else said[0]
+            return f"{said[0][:-1]}, {_place(*callers[0], here)})" if callers else said[0]
 
         return NAMED.sub(placed, warnings)
 
@@ -1059,7 +1059,7 @@ def _received_last(ends: List[_End]) -> Dict[int, List[str]]:
             after = _most(has, ends[author].pasts[n - 1])
             if any(bisect_right(other.changes, now) > bisect_right(other.changes, before)
                    for other, before, now in zip(ends, has, after)):
-                news.append(f"{author}.{n} (line {line})")
+                news.append(f"{author}.{n} (in line {line})")
             has = after
         if one.pasts and news:
             late[replica] = news
@@ -1067,8 +1067,8 @@ def _received_last(ends: List[_End]) -> Dict[int, List[str]]:
 
 
 def _unshown(ends: List[_End], late: Dict[int, List[str]]) -> List[str]:
-    return [f"replica {replica} shows no list{' but a view' if ends[replica].is_viewed else ''} after its last receipt{'' if len(news) == 1 else 's'}, "
-            f"of {_listing(news, len(news))}: let each replica read at the end" for replica, news in late.items()]
+    return [f"replica {replica} shows no list{' but a view' if ends[replica].is_viewed else ''} after it received {_listing(news, len(news))}: "
+            "let each replica read at the end" for replica, news in late.items()]
 
 
 def _listing(told: List[str], count: int) -> str:

@@ -970,10 +970,11 @@ impl Recording {
         let from = said.find(WARNINGS).map_or(said.len(), |at| at + WARNINGS.len());
         let to = said[from..].find("\n\n").map_or(said.len(), |at| from + at);
         let mut told = said[..from].to_string();
-        for (count, part) in said[from..to].split("(line ").enumerate() {
-            let line = part.split_once(')').filter(|_| count > 0).and_then(|(digits, rest)| Some((digits.parse().ok()?, rest)));
+        for (count, part) in said[from..to].split("line ").enumerate() {
+            let is_named = count > 0 && (told.ends_with('(') || told.ends_with("(in "));
+            let line = part.split_once(')').filter(|_| is_named).and_then(|(digits, rest)| Some((digits.parse().ok()?, rest)));
             let caller = line.and_then(|(line, rest): (usize, _)| Some((line, self.callers.get(line.checked_sub(HEAD_LINES + 1)?)?, rest)));
-            told += if count > 0 { "(line " } else { "" };
+            told += if count > 0 { "line " } else { "" };
             match caller {
                 Some((line, caller, rest)) => told += &format!("{line}, {}){rest}", place(caller, &here)),
                 None => told += part,
@@ -1448,7 +1449,7 @@ impl<'a> Warned<'a> {
             }
         }
         found.sort_unstable();
-        found.into_iter().map(|(line, author, n)| format!("{author}.{n} {}", self.line(line))).collect()
+        found.into_iter().map(|(line, author, n)| format!("{author}.{n} ({})", self.line(line))).collect()
     }
 
     /// Of replicas that did something, and never heard of a change of another.
@@ -1490,7 +1491,7 @@ impl<'a> Warned<'a> {
                     has[other] = has[other].max(seen);
                 }
                 if is_new {
-                    news.push(format!("{author}.{n} {}", self.line(line)));
+                    news.push(format!("{author}.{n} (in {})", self.line(line)));
                 }
             }
             if !news.is_empty() {
@@ -1502,16 +1503,16 @@ impl<'a> Warned<'a> {
 
     fn unshown(&self, late: &BTreeMap<usize, Vec<String>>) -> Vec<String> {
         let told = |(&replica, news): (&usize, &Vec<String>)| {
-            let (s, news) = (plural(news.len()), listed(news));
+            let news = listed(news);
             let but = if self.replicas[replica].is_viewed { " but a view" } else { "" };
-            format!("replica {replica} shows no list{but} after its last receipt{s}, of {news}: let each replica read at the end")
+            format!("replica {replica} shows no list{but} after it received {news}: let each replica read at the end")
         };
         late.iter().map(told).collect()
     }
 
     /// A line of the trace, with its place in your code.
     fn line(&self, line: usize) -> String {
-        format!("(line {line}, {})", place(self.recording.callers[line - HEAD_LINES - 1], &self.here))
+        format!("line {line}, {}", place(self.recording.callers[line - HEAD_LINES - 1], &self.here))
     }
 }
 

@@ -65,8 +65,9 @@ def stop(line: int, doing: str, *others: int, together: int = 0) -> str:
     where = "right before the call that reads the list" if "reads the list" in doing else "right before the call that makes the editor apply a change, local or remote"
     stops = f"It stops when {line - 1} lines have been recorded."
     if together:
-        both = "both" if together + 1 == line else f"lines {together} to {line}"
-        stops = f"It stops before line {together} and before line {line} ({together - 1} and {line - 1} recorded lines), in case one call applies {both}."
+        both = f"lines {together} and {line}" if together + 1 == line else f"several of lines {together} to {line}"
+        stops = (f"It stops when {together - 1} lines have been recorded, and again when {line - 1} have: look at what happens after the second stop. If there is no second one, one call applies "
+                 f"what {both} record: look at what happens after the first.")
     asked = f"if recording.lines() in ({together - 1}, {line - 1}): breakpoint()" if together else asked
     where += f". {stops}"
     return f"|In a debugger|stop before line {line} of the trace, where {doing}.|In Python, put this code {where}|{asked}"
@@ -199,12 +200,16 @@ WORDS = [
     ("a session that goes on", 2, f"{BESIDE_DELETED}|0 recv 1 2|0 read : d c|1 read : c d",
      "When it showed|line 11 of the trace, 1.3: replica 1 read the list. Up to line 10 the session is accepted; with line 11 the verdict is `refused 2`|"
      "before it: replica 1's 1.2 (line 8) answered c, which fits; since then it received 0.3 (line 10)|"
-     "in the end replicas 0 and 1 have every change, as the receipts say, and show the same elements in different orders||"
+     "in the end replicas 0 and 1 have every change, as the receipts say, and show the same elements in different orders: d before c at replica 0, c before d at replica 1||"
      "What these responses show: a circle, which no order allows|"
      "[d] before [c]: line 9, 0.3: replica 0 inserted d at position 1, answered b [d] [c]|"
      "[c] before [d]: line 11, 1.3: replica 1 read the list, answered [c] [d]||The elements|"
      "c arrived at replica 0 in line 6, d at replica 1 in line 10||"
      "Where to look" + stop(10, "replica 1 applies 0.3", 6)),
+    ("a session that goes on, where others stand in two orders in the end", 3, "0 ins a 0 : a|1 ins b 0 : b|0 recv 1 1|1 recv 0 1|0 read : a b|1 read : b a|0 ins c 2 : a b c|1 ins d 2 : a b d|"
+     "0 recv 1 3|1 recv 0 3|2 recv 0 3|2 recv 1 3|0 read : a b c d|1 read : a b d c|2 read : a b d c",
+     "in the end replicas 0, 1 and 2 have every change, as the receipts say, and show the same elements in different orders: c before d at replica 0, d before c at replicas 1 and 2||"
+     "What these responses show: a circle, which no order allows|[a] before [b]: line 7, 0.2: replica 0 read the list, answered [a] [b]"),
     ("a session that goes on, with one list in the end", 2, f"{BESIDE_DELETED}|0 recv 1 2|0 read : c d",
      "When it showed|line 11 of the trace, 1.3: replica 1 read the list. Up to line 10 the session is accepted; with line 11 the verdict is `refused 2`|"
      "before it: replica 1's 1.2 (line 8) answered c, which fits; since then it received 0.3 (line 10)|"
@@ -224,7 +229,7 @@ WORDS = [
      "When it showed|line 11 of the trace, 0.3: replica 0 read the list. Up to line 10 the session is accepted; with line 11 the verdict is "
      "`refused 3`|"
      "before it: replica 0's 0.2 (line 8) answered (nothing), which fits; since then it received 1.1 (line 9), 2.1 (line 10)|"
-     "in the end replicas 0 and 1 have every change, as the receipts say, and show the same elements in different orders||"
+     "in the end replicas 0 and 1 have every change, as the receipts say, and show the same elements in different orders: b before a at replica 0, a before b at replica 1||"
      "What these responses show: a circle, which no order allows|"
      "[x] before [b]: line 7, 2.1: replica 2 inserted b at position 1, answered [x] [b]|"
      "[b] before [a]: line 11, 0.3: replica 0 read the list, answered [b] [a]|"
@@ -342,7 +347,7 @@ WORDS = [
      "[c] before [a]: line 7, 1.1: replica 1 showed a part of the list, answered [c] [a]"),
     ("accepted, with a view", 2, "0 ins a 0 : a|0 ins b 1 : a b|1 recv 0 2|1 view : b",
      "accepted, with a warning: all 3 responses fit one order of the elements.||What this verdict may hide|replica 1 shows no list but a view "
-     f"after its last receipt, of 0.2 (line 5): {UNSHOWN}||One order that fits all responses (deleted elements included)|a b"),
+     f"after it received 0.2 (in line 5): {UNSHOWN}||One order that fits all responses (deleted elements included)|a b"),
     ("past the end, elsewhere", 1, "0 ins a 0 : a|0 ins b 4294967295 : b a",
      "position 0.2: b is not at the position that was asked for.|"
      "line 4 of the trace, 0.2: replica 0 inserted b at position 4294967295|answered: [b] [a]|"
@@ -672,20 +677,20 @@ WARNED = [
      f"the last lists of replicas 0 and 1 differ|replica 0 never hears of replica 1: {UNHEARD}|replica 1 never hears of replica 0: {UNHEARD}"),
     ("one that never hears of three others", 4, "0 ins a 0 : a|1 del a :|1 recv 0 1|2 ins c 0 : c|2 recv 1 1|2 recv 0 1|0 recv 2 1|"
      "0 recv 1 1|1 recv 2 1|3 read :",
-     f"replica 0 shows no list after its last receipts, of 2.1 (line 9) and 1.1 (line 10): {UNSHOWN}|"
-     f"replica 1 shows no list after its last receipts, of 0.1 (line 5) and 2.1 (line 11): {UNSHOWN}|"
-     f"replica 2 shows no list after its last receipts, of 1.1 (line 7) and 0.1 (line 8): {UNSHOWN}|"
+     f"replica 0 shows no list after it received 2.1 (in line 9) and 1.1 (in line 10): {UNSHOWN}|"
+     f"replica 1 shows no list after it received 0.1 (in line 5) and 2.1 (in line 11): {UNSHOWN}|"
+     f"replica 2 shows no list after it received 1.1 (in line 7) and 0.1 (in line 8): {UNSHOWN}|"
      f"replica 3 never hears of replicas 0, 1 and 2: {UNHEARD}"),
     ("one that hears of a read alone", 2, "0 read :|1 recv 0 1|1 read :|0 ins a 0 : a",
      f"the last lists of replicas 0 and 1 differ|replica 1 never hears of replica 0: {UNHEARD}"),
     ("all hear by way of a third", 3, "0 ins a 0 : a|2 recv 0 1|2 read : a|1 ins b 0 : b|1 recv 2 1|2 recv 1 1|2 read : b a|0 recv 2 2|"
      "0 read : b a|1 read : b a", ""),
     ("one that hears at the end", 2, "0 ins a 0 : a|1 read :|1 recv 0 1",
-     f"replica 1 shows no list after its last receipt, of 0.1 (line 5): {UNSHOWN}"),
+     f"replica 1 shows no list after it received 0.1 (in line 5): {UNSHOWN}"),
     ("one that hears at the end, and shows a part", 2, "0 ins a 0 : a|1 recv 0 1|1 view :",
-     f"replica 1 shows no list but a view after its last receipt, of 0.1 (line 4): {UNSHOWN}"),
+     f"replica 1 shows no list but a view after it received 0.1 (in line 4): {UNSHOWN}"),
     ("a receipt before a view and one behind it", 2, "0 ins a 0 : a|1 read :|1 recv 0 1|1 view : a|0 ins b 0 : b a|1 recv 0 2",
-     f"replica 1 shows no list after its last receipts, of 0.1 (line 5) and 0.2 (line 8): {UNSHOWN}"),
+     f"replica 1 shows no list after it received 0.1 (in line 5) and 0.2 (in line 8): {UNSHOWN}"),
     ("a list between a receipt and a view", 2, "0 ins a 0 : a|1 recv 0 1|1 read : a|1 view : a", ""),
     ("one that reads is not heard of", 2, "0 ins a 0 : a|1 recv 0 1|1 read : a", ""),
     ("a delete before its insert", 2, "0 ins a 0 : a|1 del a :|1 recv 0 1|1 read :|0 recv 1 1|0 read :", ""),
@@ -700,9 +705,9 @@ WARNED = [
      "the last lists of replicas 0, 1 and 2 differ: 0.2 (line 8), 0.3 (line 9), 0.4 (line 10) and 1 more never arrived at replica 1; "
      f"0.4 (line 10) and 0.5 (line 11) never arrived at replica 2 in this recording. {THEY}"),
     ("one that makes nothing of what came last", 2, "0 ins a 0 : a|1 recv 0 1|1 read : a|0 ins b 1 : a b|0 read : a b|1 recv 0 3",
-     f"replica 1 shows no list after its last receipt, of 0.3 (line 8): {UNSHOWN}"),
+     f"replica 1 shows no list after it received 0.3 (in line 8): {UNSHOWN}"),
     ("one that makes nothing of what came last, and lacks another change", 3, "0 ins a 0 : a|1 recv 0 1|1 read : a|0 ins b 1 : a b|1 recv 0 2|2 recv 0 1|2 read : a|0 ins c 2 : a b c",
-     f"replica 1 shows no list after its last receipt, of 0.2 (line 7): {UNSHOWN}|the last lists of replicas 0 and 2 differ|"
+     f"replica 1 shows no list after it received 0.2 (in line 7): {UNSHOWN}|the last lists of replicas 0 and 2 differ|"
      f"in this recording 0.3 (line 10) never arrived at replica 1; 0.2 (line 6) and 0.3 (line 10) never arrived at replica 2. {THEY}"),
     ("one that receives what it has", 2, "0 ins a 0 : a|1 recv 0 1|1 read : a|0 read : a|1 recv 0 2|1 recv 0 1", ""),
     ("lists in other orders", 2, "0 ins a 0 : a|0 ins b 1 : a b|1 recv 0 2|1 read : a b", ""),
@@ -764,6 +769,25 @@ if recording.lines() == 5: breakpoint()
 
 The list specifications
 """
+# Such sessions in which the element that is told first is wrong by a change behind another one: the replicas, the entries, the lines that `delivered` wrote, and the words.
+UNDELIVERED_LATER = {
+    "an insert behind one that is deleted again": (2, "0 ins a 0 : a|1 recv 0 1|1 read : a|0 ins x 1 : a x|0 del x : a|0 ins b 1 : a b|0 read : a b|1 recv 0 5|1 read : a", "9 11",
+        "It looks as if 0.4 (line 8) never reached replica 1, though the call `delivered` (line 10) says that everything has arrived. 0.4 may be waiting for 0.2 (line 6), an earlier change by the same "
+        "author: nothing but `delivered` says that 0.2 arrived at replica 1, so 0.2 may be missing too. Look first at 0.2. Perhaps 0.2 was lost, or is held back for ever, or `delivered` was called too early. Of another "
+        "change, too, nothing but `delivered` says that it arrived there: 0.3 (line 7). Look at what keeps changes waiting.\n\nIn a debugger\n  stop before line 6 of the trace, where replica 0 inserts x, and follow "
+        "0.2 to replica 1.\n"),
+    "an insert behind a delete": (2, "0 ins a 0 : a|1 recv 0 1|1 read : a|0 del a :|0 ins b 0 : b|0 read : b|1 recv 0 3|1 read : a", "8 10",
+        "It looks as if 0.3 (line 7) never reached replica 1, though the call `delivered` (line 9) says that everything has arrived. 0.3 may be waiting for 0.2 (line 6), an earlier change by the same "
+        "author: this response shows that 0.2 was not applied at replica 1 either. Look first at 0.2. Perhaps 0.2 was lost, or is held back for ever, or `delivered` was called too early. Look at what keeps changes "
+        "waiting.\n\nIn a debugger\n  stop before line 6 of the trace, where replica 0 deletes a, and follow 0.2 to replica 1.\n"),
+    "an insert behind two of other authors": (4, "0 ins a 0 : a|1 recv 0 1|1 read : a|3 ins z 0 : z|3 del z :|2 ins x 0 : x|2 del x :|0 recv 2 2|0 ins b 1 : a b|1 recv 2 2|1 recv 0 2|1 recv 3 2|1 read : a", "12 15",
+        "It looks as if 0.2 (line 11) never reached replica 1, though the call `delivered` (lines 12, 13 and 14) says that everything has arrived. 0.2 may be waiting for 2.1 (line 8), which its author "
+        "already had: nothing but `delivered` says that 2.1 arrived at replica 1, so 2.1 may be missing too. Look first at 2.1. Perhaps 2.1 was lost, or is held back for ever, or `delivered` was called too early. Of "
+        "other changes, too, nothing but `delivered` says that they arrived there: 3.1 (line 6), 3.2 (line 7) and 2.2 (line 9). Look at what keeps changes waiting.\n\nIn a debugger\n  stop before line 8 of the "
+        "trace, where replica 2 inserts x, and follow 2.1 to replica 1.\n"),
+}
+UNDELIVERED_LATER["a delete behind an insert that is deleted again"] = (2, "0 ins a 0 : a|1 recv 0 1|1 read : a|0 ins x 1 : a x|0 del x : a|0 del a :|0 read :|1 recv 0 5|1 read : a", "9 11",
+                                                                       UNDELIVERED_LATER["an insert behind one that is deleted again"][3])
 STATEMENTS = [
     ("", "In Python, put this code {}. It stops when 6 lines have been recorded.\n    if recording.lines() == 6: breakpoint()"),
     ("language python\n", "In Python, put this code {}. It stops when 6 lines have been recorded.\n    if recording.lines() == 6: breakpoint()"),
@@ -1233,7 +1257,8 @@ def places(tally: Tally, program: str, folder: str) -> None:
     for name, wanted in FOR_TWO.items():
         got = explain(program, ["--language", name, "-"], text_of(2, "0 ins a 0 : a|0 ins b 1 : a b|1 recv 0 1|1 recv 0 2|1 read : a").encode()).out.decode()
         tally.check(f"a debugger: {name}, receipts that stand together", paragraph(got, "In a debugger").endswith(
-            f". It stops before line 5 and before line 6 (4 and 5 recorded lines), in case one call applies both.\n    {wanted}"), got)
+            ". It stops when 4 lines have been recorded, and again when 5 have: look at what happens after the second stop. If there is no second one, one call applies what lines 5 and 6 record: "
+            f"look at what happens after the first.\n    {wanted}"), got)
     undelivered(tally, program, folder)
     path.write_text(text_of(2, PLACED))
     for beside, wanted in NOTES:
@@ -1260,6 +1285,9 @@ def undelivered(tally: Tally, program: str, folder: str) -> None:
     for name, said in ("beside the trace", got), ("by an option", by_words):
         told = "".join(line.strip() + "\n" for line in said.splitlines())
         tally.check(f"undelivered: {name}", UNDELIVERED_WORDS in told, said)
+    for name, (replicas, entries, lines, wanted) in UNDELIVERED_LATER.items():
+        said = explain(program, ["--language", "python", "--delivered", lines.replace(" ", "-"), "-"], text_of(replicas, entries).encode()).out.decode()
+        tally.check(f"undelivered: {name}", f"\nWhere to look\n  {wanted}" in said, said)
     kept = small.read_text().splitlines()[2:], Path(f"{small}.lines").read_text().splitlines()
     again = explain(program, [str(small)]).out.decode()
     tally.check("undelivered: the small trace says the same", "though the call `delivered` (line " in again and kept[1][0] == str(2 + len(kept[0])), (kept, again))
@@ -1779,7 +1807,7 @@ FIRST_TOLD = {
         "Replica 0 showed its own changes in 0.2 (line 4), and shows them no more: the insert of a by 0.1 (line 3) and the insert of b by 0.2 (line 4). Since then it received the insert of c by 1.2 "
         "(line 7). Was the replica's list replaced by a state from elsewhere"),
     "a place from before what came": ("neighbours", 2, "0 ins a 0 : a|0 ins b 1 : a b|0 ins c 2 : a b c|0 ins d 3 : a b c d|1 recv 0 4|1 del a : b c d|0 recv 1 1|0 ins e 2 : b e c d",
-        "[e] stands directly before c. That place was position 2 in an older list, in 0.4 (line 6). After that came the delete of a by 1.1 (in line 9). Does the editor still use something from before that (a place, an offset, an index, a copy of the list)? Every kind of change that arrives must update it."),
+        "[e] stands directly before c. That place was position 2 in an older list: 0.4 (line 6) answered a b c d. After that came the delete of a by 1.1 (in line 9). Does the editor still use something from before that (a place, an offset, an index, a copy of the list)? Every kind of change that arrives must update it."),
     "an order that a delete hides": ("neighbours", 3, "0 ins n 0 : n|1 ins o 0 : o|2 recv 0 1|2 recv 1 1|2 read : n o|2 ins l 1 : n l o|0 del n :|0 recv 1 1|0 read : o|0 recv 2 2|0 read : o l",
         "[l] was put directly behind n (0.1 (line 3)), and n and [o] were inserted at the front without knowing of each other. n is deleted at replica 0, which never showed n and [o] together: perhaps it still keeps n, but on the other side of [o] than replica 2 has it. Then "
         "[l], put rightly beside n, stands there too. So look first at where these concurrent inserts were put when they arrived: n in line 5 (replica 2), o in line 6 (replica 2) and o in line 10 (replica 0)."),
@@ -1871,8 +1899,14 @@ def first_told(tally: Tally, program: str, folder: str) -> None:
         r"\nWhere to look\n  Look first at whether 1\.3 was lost on its way to replica 0: .*\n  Look also at whether 0\.3 \(line 5\) was lost on its way to replica 1, ", told) is not None, told)
     path.write_text(text_of(2, "0 ins a 0 : a|0 ins b 1 : a b|0 ins c 2 : a b c|1 recv 0 3|1 ins x 0 : x a b c|1 del c : x a b|0 recv 1 2|0 ins e 2 : x a b e"))
     told = explain(program, [str(path)]).out.decode()
-    tally.check("first told: a place behind what stood there before", "\n  [e] stands directly behind b. That place was position 2 in an older list, in 0.3 (line 5). After that came the insert of x by 1.1 (in line 9) "
+    tally.check("first told: a place behind what stood there before", "\n  [e] stands directly behind b. That place was position 2 in an older list: 0.3 (line 5) answered a b c. After that came the insert of x by 1.1 (in line 9) "
                 "and the delete of c by 1.2 (in line 9). Does the editor" in told, told)
+    names = [f"n{i}" for i in range(30)]
+    path.write_text(text_of(2, "|".join([*(f"0 ins {name} {i} : {' '.join(names[:i + 1])}" for i, name in enumerate(names)), "1 recv 0 30", f"1 del n0 : {' '.join(names[1:])}", "0 recv 1 1",
+                                         f"0 ins e 20 : {' '.join([*names[1:20], 'e', *names[20:]])}"])))
+    told = explain(program, [str(path)]).out.decode()
+    tally.check("first told: a place in a long list from before what came", "\n  [e] stands directly before n20. That place was position 20 in an older list: 0.30 (line 32) answered n0 .. n19 n20 n21 .. n29 "
+                "(30 names). After that came the delete of n0 by 1.1 (in line 35). Does the editor" in told, told)
     path.write_text(text_of(2, "0 ins a 0 : a|0 ins b 1 : a b|0 ins c 2 : a b c|1 recv 0 3|1 read : a b c|0 del a : b c|1 ins d 1 : a d b c|1 del c : a d b|0 recv 1 2|0 recv 1 3|0 read : b c"))
     told = explain(program, [str(path)]).out.decode()
     tally.check("first told: a delete behind an insert that nothing shows, and that a delete met", "had not seen. Or perhaps d was put at a wrong place already, in line 11, by 1.2, whose author had "

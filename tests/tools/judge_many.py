@@ -94,7 +94,7 @@ WARNINGS = {
     "more": re.compile(r"and (\d+) more (?:deletes? of|inserts? past) "),
     "unheard": re.compile(r"replica (\d+) never hears of replicas? ([\d, and]+): "),
     "ends": re.compile(r"(the last lists of replicas [\d, and]+ differ|in this recording )"),
-    "unshown": re.compile(r"replica (\d+) shows no list(?: but a view)? after its last receipts?, of "),
+    "unshown": re.compile(r"replica (\d+) shows no list(?: but a view)? after it received "),
 }
 LACKED = re.compile(r"((?:\d+\.\d+ \(line \d+\)(?:, | and )?|\d+ more )+) ?never arrived at replicas? (\d+(?:(?:, | and )\d+(?!\d|\.\d))*)")
 NAMED = re.compile(r"(\d+)\.(\d+) \(line (\d+)\)")

@@ -1602,19 +1602,19 @@ WARNED = [
                                          "read 0 b a", "read 1 b a"],
      ["the last lists of replicas 0, 1 and 2 differ (0 and 1 show the same one)", NEVER_HEARS.format(2, "replicas 0 and 1")]),
     ("no list at the end", ["new 2", "insert 0 a 0 a", "insert 1 b 0 b", "received 0 1 1", "read 0 b a", "received 1 0 1", "view 1 a"],
-     ["replica 1 shows no list but a view after its last receipt, of 0.1 (line 7): let each replica read at the end"]),
+     ["replica 1 shows no list but a view after it received 0.1 (in line 7): let each replica read at the end"]),
     ("a list, and then a view", ["new 2", "insert 0 a 0 a", "received 1 0 1", "read 1 a", "view 1 a"], []),
     ("a view between two receipts", ["new 2", "insert 0 a 0 a", "read 1", "received 1 0 1", "view 1 a", "insert 0 b 0 b a", "received 1 0 2"],
-     ["replica 1 shows no list after its last receipts, of 0.1 (line 5) and 0.2 (line 8): let each replica read at the end"]),
+     ["replica 1 shows no list after it received 0.1 (in line 5) and 0.2 (in line 8): let each replica read at the end"]),
     ("nothing shown of what came last", ["new 2", "insert 0 a 0 a", "read 1", "received 1 0 1", "received 1 0 1"],
-     ["replica 1 shows no list after its last receipt, of 0.1 (line 5): let each replica read at the end"]),
+     ["replica 1 shows no list after it received 0.1 (in line 5): let each replica read at the end"]),
     ("nothing shown of what came last, and a change that never came", ["new 3", "insert 0 a 0 a", "received 1 0 1", "read 1 a", "insert 0 b 1 a b",
                                                                       "received 1 0 2", "received 2 0 1", "read 2 a", "insert 0 c 2 a b c"],
-     ["replica 1 shows no list after its last receipt, of 0.2 (line 7): let each replica read at the end", "the last lists of replicas 0 and 2 differ",
+     ["replica 1 shows no list after it received 0.2 (in line 7): let each replica read at the end", "the last lists of replicas 0 and 2 differ",
       f"in this recording 0.3 (line 10) never arrived at replica 1; 0.2 (line 6) and 0.3 (line 10) never arrived at replica 2. {LOST_SOME}"]),
     ("nothing shown of several", ["new 2", "insert 0 a 0 a", "insert 0 b 0 b a", "insert 0 c 0 c b a", "insert 0 d 0 d c b a",
                                   "insert 0 e 0 e d c b a", "view 1", *(f"received 1 0 {n}" for n in range(1, 6))],
-     ["replica 1 shows no list after its last receipts, of 0.1 (line 9), 0.2 (line 10), 0.3 (line 11) and 2 more: let each "
+     ["replica 1 shows no list after it received 0.1 (in line 9), 0.2 (in line 10), 0.3 (in line 11) and 2 more: let each "
       "replica read at the end"]),
     ("receipts alone, and no entry", ["new 3", "insert 0 a 0 a", "received 1 0 1"],
      ["replica 1 has receipts, but no operation: nothing that it showed is judged",
@@ -1639,7 +1639,7 @@ def check_warnings(tally: Tally, recorder: Recorder) -> None:
         told = [line[2:] for line in got[end + 1:-2]]
         report = json.loads(got[-1][7:]) if got[-1].startswith("report {") else {}
         tally.check(f"{recorder.language}: judge warns, {name}", report.get("verdict") == "accepted" and report.get("warnings") == told, got)
-        placed = [place for line in told for place in re.findall(r"\(line \d+([^()]*)\)", line)]
+        placed = [place for line in told for place in re.findall(r"\((?:in )?line \d+([^()]*)\)", line)]
         if recorder.language in PLACING:
             found = [re.fullmatch(rf", [^,()]*driver\.{recorder.language}:(\d+)", place) for place in placed]
             tally.check(f"{recorder.language}: warnings have places, {name}", all(
@@ -1795,6 +1795,13 @@ def check_explains_file(tally: Tally, recorder: Recorder, folder: Path) -> None:
     tally.check(f"{recorder.language}: explains a file with warnings", told.returncode == 0 and said == told.stdout.splitlines() and
                 said[-6:] == ["", "Your notes", "  seed 17", *(LAST + "  strong and weak hold").split("\n")] and re.search(rf": 0\.2 \(line 5(, .*{place})?\) never arrived at replica 1 ", told.stdout)
                 and ("(line 5, " in told.stdout) == (recorder.language in PLACING), (said, told))
+    late = ["new 2", "insert 0 a 0 a", "read 1", "insert 0 b 1 a b", "received 1 0 1", "received 1 0 2"]
+    got = recorder.answers([*map(fields, late), f"save\t{trace}", "explain"], DOMEPEELER_EXPLAIN=EXPLAIN)
+    told = subprocess.run([EXPLAIN, trace], capture_output=True, text=True, env=recorder.surroundings)
+    said = [line[2:] for line in got[len(late) + 1:-1]]
+    behind = f", [^()]*{place}" if place else ""
+    tally.check(f"{recorder.language}: explains a file with a warning of receipts", told.returncode == 0 and said == told.stdout.splitlines() and re.search(
+        rf"\n  replica 1 shows no list after it received 0\.1 \(in line 6{behind}\) and 0\.2 \(in line 7{behind}\): let each replica read at the end\n", told.stdout) is not None, (said, told))
     lost = ["new 2", "insert 0 a 0 a", "delivered a /"]
     got = recorder.answers([*map(fields, lost), f"save\t{trace}", "explain"], DOMEPEELER_EXPLAIN=EXPLAIN)
     told = subprocess.run([EXPLAIN, trace], capture_output=True, text=True, env=recorder.surroundings)
@@ -2909,7 +2916,7 @@ fn main() {{
     subprocess.run(["rustc", "--edition", "2021", "-o", "placed", place / "placed.rs"], cwd=place, check=True)
     done = subprocess.run([place / "placed"], cwd=folder, env=surroundings, capture_output=True, text=True)
     tally.check("Rust: places with signs that JSON escapes", json.loads(done.stdout)["warnings"] == [
-        'replica 1 shows no list after its last receipt, of 0.1 (line 5, a "user\'s" \\tests/placed.rs:7): let each replica read at the end'], done)
+        'replica 1 shows no list after it received 0.1 (in line 5, a "user\'s" \\tests/placed.rs:7): let each replica read at the end'], done)
 
 
 # Tests in Rust that fail by themselves where the variable says so.

@@ -16,9 +16,13 @@ LOCAL = ("The replica received nothing between {before} and this response, so lo
 APPLIED_TWICE = ("It looks as if {changes} {were} applied twice at replica {replica}: look at what the editor does with a change that arrives a second "
                  "time{back}, and at whether a change that was held back is applied twice: on arrival and again later.")
 OWN_BACK = " (a server may send a replica its own changes back)"
-UNDELIVERED = ("It looks as if {changes} never reached replica {replica}, though the call `delivered` ({lines}) says that everything has arrived. Perhaps {names} "
+UNDELIVERED = ("It looks as if {changes} never reached replica {replica}, though the call `delivered` ({lines}) says that everything has arrived.{before} Perhaps {names} "
                "{were} lost, or {are} held back for ever, or `delivered` was called too early.{waiting} Look at what keeps changes waiting.")
 WAITING = " Later changes that perhaps wait for {names}: {others}."
+WAITS_FOR = " {change} may be waiting for {first}, {which}: {lacking}. Look first at {names}."
+LACKING = {True: "this response shows that {names} {were} not applied at replica {replica} either",
+           False: "nothing but `delivered` says that {names} arrived at replica {replica}, so {names} may be missing too"}
+SAID_TOO = {True: " Of another change, too, nothing but `delivered` says that it arrived there: {others}.", False: " Of other changes, too, nothing but `delivered` says that they arrived there: {others}."}
 NO_PLACE = (" Perhaps {insert} finds no place there for {element}: its neighbour {neighbours}. An editor that throws deleted elements away too "
             "early loses such an insert or holds it back for ever.")
 NOT_APPLIED = ("It looks as if {changes} {were} not applied at replica {replica}: lost, or held back{received}.{later}{elsewhere}{other}")
@@ -238,15 +242,23 @@ def past_others(evidence: Evidence, deletes: list) -> str:
 
 
 def undelivered(evidence: Evidence) -> Cause:
-    """That changes had arrived is said by `delivered` alone: first those whose authors had none of the others."""
+    """That changes had arrived is said by `delivered` alone: first those whose authors had none of the others. But where the element that is told first is wrong by a later
+    one, that one, and then those for which it may be waiting."""
     changes, replica = evidence.undelivered, evidence.operations[0].replica
+    about, first = evidence.undelivered_first
     lines = sorted({evidence.recording.arrival(change, replica).line for change in changes})
     written = f"line{'' if len(lines) == 1 else 's'} {listed(list(map(str, lines)), MOST_TOLD)}"
-    first = [change for change in changes if not any(other is not change and change.has_seen(other) for other in changes)]
-    others = [change for change in changes if change not in first]
+    is_later = about not in first
+    first = [change for change in first if about.has_seen(change)] if is_later else first
+    others = [change for change in changes if change not in first and not (is_later and change is about)]
     names = listed([change.name for change in first], MOST_TOLD)
-    waiting = WAITING.format(others=changes_told(others)["changes"], names=names) if others else ""
-    told = UNDELIVERED.format(lines=written, replica=replica, waiting=waiting, names=names, **changes_told(first))
+    is_own = [change.replica for change in first] == [about.replica]
+    is_shown = all(change.element in (evidence.missing if change.kind == "ins" else evidence.surplus) for change in first)
+    before = WAITS_FOR.format(change=about.name, first=changes_told(first)["changes"], which="an earlier change by the same author" if is_own else "which its author already had", names=names,
+                              lacking=LACKING[is_shown].format(names=names, replica=replica, were="were" if first[1:] else "was")) if is_later else ""
+    waiting = (SAID_TOO[len(others) == 1] if is_later else WAITING).format(others=changes_told(others)["changes"], names=names) if others else ""
+    told = UNDELIVERED.format(lines=written, replica=replica, before=before, waiting=waiting, names=names,
+                              **{**changes_told(first), "changes": changes_told([about] if is_later else first)["changes"]})
     gone = [delete for delete in evidence.deleted_beside(first[0], replica) if delete not in changes]
     if not gone:
         return Cause("not delivered", told)

@@ -8,7 +8,7 @@ from .evidence import Arrival, Evidence
 from .kinds import BY_ELEMENTS, IDENTIFIERS, NEIGHBOURS, POSITIONS, TREE, is_possible
 from .positions import are_put_at_once, elements_before, is_known, list_of, met_inserts, neighbours, put_there_at_once
 from .recordings import Operation, Receipt, place_asked
-from .telling import at, counted, joined, listed
+from .telling import at, counted, joined, listed, marked
 
 NUMBERS_OF_INSERTS = (" Often the clock that decides between inserts does not advance when changes arrive, or advances past only the first element of a paste; or the neighbour is not found; or "
                       "elements are stored in runs (blocks of several), and a run is split at a wrong offset{deleted}.")
@@ -40,8 +40,8 @@ NUMBERS_TREE = ("Look at where a new child is put: {element} stands behind {pass
                 "{causes}ids are compared as text).")
 KEPT_PLACE = ("{came} came to replica {replica} in line {line}, beside {own}, which the replica had inserted earlier, by {insert}. Does the editor keep a position, or a range, from its last "
               "insert? Then a change that arrives must update it.")
-STALE = ("[{element}] stands {where}. That place was position {at} in an older list, in {before}. After that came {came}. Does the editor still use something from before that (a place, an offset, an index, a copy of the "
-         "list)? Every kind of change that arrives must update it.")
+STALE = ("[{element}] stands {where}. That place was position {at} in an older list: {before} answered {shown}. After that came {came}. Does the editor still use something from before that (a place, an offset, an index, "
+         "a copy of the list)? Every kind of change that arrives must update it.")
 CLOCK = {True: "the clock does not advance with each insert; ", False: "the clock does not advance when changes arrive, or when one that was held back is applied; the replica's number is compared before the clock; "}
 BESIDE_DELETED = ("If inserts find their place by a neighbour, look at inserts beside deleted elements: {which}. If replicas throw "
                   "deleted elements away, nothing says then where the insert belongs; if they keep them, the search for its place must treat them like "
@@ -185,9 +185,10 @@ def stale_place(evidence: Evidence) -> list:
     behind = before.response[operation.at:operation.at + 1]
     place = operation.response.index(operation.element)
     is_before = behind and operation.response[place + 1:place + 2] == behind  # else what stands before it is the same
-    where = f"directly before {behind[0]}" if is_before else f"directly behind {before.response[operation.at - 1]}"
+    beside = behind[0] if is_before else before.response[operation.at - 1]
+    where = f"directly {'before' if is_before else 'behind'} {beside}"
     news = [f"the {'insert' if change.kind == 'ins' else 'delete'} of {change.element} by {change.name} (in line {evidence.line_at(change, operation.replica)})" for change in came]
-    return [Cause("stale place", STALE.format(element=operation.element, at=operation.at, before=at(before), came=listed(news, MOST_MET), where=where))]
+    return [Cause("stale place", STALE.format(element=operation.element, at=operation.at, before=at(before), shown=marked(before.response, set(), {beside}), came=listed(news, MOST_MET), where=where))]
 
 
 def beside_gone(evidence: Evidence, passed: str) -> list:

@@ -46,7 +46,7 @@ def stop_of(evidence: Evidence) -> tuple:
         return (first, [other for other in arrivals if other.line != first.line]) if first else (entry, others[::-1])
     named = evidence.operations[0]
     if evidence.report["verdict"] == "contents" and evidence.undelivered:
-        return evidence.undelivered[0], []
+        return evidence.undelivered_first[1][0], []
     if evidence.report["verdict"] == "contents":
         arrived = [again for again, _ in evidence.second_deletes if again.replica != named.replica]
         second = [evidence.recording.arrival(again, named.replica) for again in arrived]
@@ -144,8 +144,9 @@ def statement(recording: Recording, entry: Operation | Receipt, language: str) -
     first = first_together(recording, entry)
     then, asked = f"It stops when {entry.line - 1} lines have been recorded.", words.format(entry.line - 1)
     if first < entry.line:
-        together = "both" if first + 1 == entry.line else f"lines {first} to {entry.line}"
-        then = f"It stops before line {first} and before line {entry.line} ({first - 1} and {entry.line - 1} recorded lines), in case one call applies {together}."
+        together = f"lines {first} and {entry.line}" if first + 1 == entry.line else f"several of lines {first} to {entry.line}"
+        then = (f"It stops when {first - 1} lines have been recorded, and again when {entry.line - 1} have: look at what happens after the second stop. If there is no second one, one call applies "
+                f"what {together} record: look at what happens after the first.")
         asked = FOR_TWO[language].format(first - 1, entry.line - 1)
     return [f"In {name}, put this code {READS if is_read else BEGINS}. {then}", f"  {asked}"]
 

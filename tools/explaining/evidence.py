@@ -528,6 +528,16 @@ class Evidence:
         return waiting if shown == set(operation.response) else left_out
 
     @cached_property
+    def undelivered_first(self) -> tuple:
+        """Of these changes the one without which the element that is told first is wrong, and those that wait for none of the others: first that one, where it is
+        among them, else those that its author had."""
+        changes = self.undelivered
+        of_element = self.recording.inserts[self.missing[0]] if self.missing else self.recording.deletes[self.surplus[0]]
+        about = next(change for change in changes if change in of_element)
+        first = [change for change in changes if not any(other is not change and change.has_seen(other) for other in changes)]
+        return about, sorted(first, key=lambda change: change is not about and (about in first or not about.has_seen(change)))
+
+    @cached_property
     def second_deletes(self) -> list:
         """Of wrong contents that lack something which was there before: each delete that is new to the response since the one before, and
         whose element had been deleted for its replica already, with the delete that did."""

@@ -27,7 +27,7 @@ LOG_MARK, MERGED_MARK = b"log", b"merged"
 MOST_NOTES, MOST_DELIVERED, MOST_REFUSED = 20, 100, 20
 MOST_MARKS = 1000  # lines beside a trace that are about no line of it: more than any recorder writes
 CALLED = ", called from "  # between two places of one line
-SHOWN_LINE = re.compile(r"\(line (\d+)\)")  # in a warning
+SHOWN_LINE = re.compile(r"\((?:in )?line (\d+)\)")  # in a warning
 
 
 class Beside(NamedTuple):
@@ -120,6 +120,6 @@ def placed_warnings(warnings: list, known: Beside) -> list:
     """The warnings, each with the nearest place of the lines that it names in brackets."""
     def place(found: re.Match) -> str:
         places = known.places.get(int(found[1]))
-        return f"(line {found[1]}, {places.partition(CALLED)[0]})" if places else found[0]
+        return f"{found[0][:-1]}, {places.partition(CALLED)[0]})" if places else found[0]
 
     return [SHOWN_LINE.sub(place, warning) for warning in warnings]

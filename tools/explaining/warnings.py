@@ -193,7 +193,7 @@ def received_last(replicas: list) -> dict:
             after = tuple(map(max, has, replicas[author].pasts[n - 1]))
             if any(bisect_right(other.changes, now) > bisect_right(other.changes, before)
                    for other, before, now in zip(replicas, has, after)):
-                news.append(f"{author}.{n} (line {line})")
+                news.append(f"{author}.{n} (in line {line})")
             has = after
         if one.pasts and news:
             late[replica] = news
@@ -201,8 +201,8 @@ def received_last(replicas: list) -> dict:
 
 
 def unshown(replicas: list, late: dict) -> list:
-    return [f"replica {replica} shows no list{' but a view' if replicas[replica].is_viewed else ''} after its last receipt{'' if len(news) == 1 else 's'}, "
-            f"of {listed(news[:MOST_CHANGES], len(news))}: let each replica read at the end" for replica, news in late.items()]
+    return [f"replica {replica} shows no list{' but a view' if replicas[replica].is_viewed else ''} after it received {listed(news[:MOST_CHANGES], len(news))}: "
+            "let each replica read at the end" for replica, news in late.items()]
 
 
 def listed(first: list, count: int) -> str:

@@ -13,14 +13,13 @@ from .evidence import MOST_ARRIVED, Evidence
 from .kinds import POSITIONS, TREE
 from .programs import WEAK_ALONE, is_weak_alone
 from .recordings import Operation, Receipt, Recording, place_asked
-from .telling import FIRST_STEPS, at, counted, did, joined, listed
+from .telling import FIRST_STEPS, at, counted, did, joined, listed, marked
 
 CODE, LOG, NOTED = "In your code", "In your log", "Your notes"  # titles: places of code or of a log; the user's words
 HIDDEN = "What this verdict may hide"  # the title of the section of warnings, the first one
 WHERE = "Where to look"  # that of the likely causes
 WHERE_OF_STRONG = "Where to look, should the strong one hold too"  # where weak alone is asked for
 REFUSED_FIRST = "Look first at the call that was refused (see above): what it was to record is not in the trace."
-MOST_NAMES = 24  # of a list that is shown whole
 AROUND = "a circle, which no order allows"
 LINE = re.compile(r"\bline (\d+)(?=[,):]| of the trace,| \(\d+ recv )")  # of the trace, in words; and not two names, `line` and a number
 
@@ -210,8 +209,24 @@ def in_the_end(recording: Recording, elements: list) -> list:
     lists, sets = ({kind(operation.response) for operation in whole} for kind in (tuple, frozenset))
     if len(lists) == 1 and not set(elements) <= next(iter(sets)):
         return []
-    shown = "the same list" if len(lists) == 1 else "the same elements in different orders" if len(sets) == 1 else "different lists"
+    shown = "the same list" if len(lists) == 1 else f"the same elements in different orders: {two_orders(whole, elements)}" if len(sets) == 1 else "different lists"
     return [f"in the end replicas {told} have every change, as the receipts say, and show {shown}"]
+
+
+def two_orders(operations: list, elements: list) -> str:
+    """Of lists of the same elements in different orders, two elements that stand in both orders, and at which replicas in which: best are two that the verdict is about."""
+    one = operations[0].response
+    other = next(operation.response for operation in operations if operation.response != one)
+    places = [{name: place for place, name in enumerate(operation.response)} for operation in operations]
+    about = [name for name in elements if name in places[0]]
+    first = next(pair for pair in zip(one, other) if pair[0] != pair[1])
+    turned = [pair for pair in zip(about, [*about[1:], *about[:1]]) if len({place[pair[0]] < place[pair[1]] for place in places}) > 1]
+    before, behind = turned[0] if turned else first
+    told = []
+    for one, two in (before, behind), (behind, before):
+        where = [str(operation.replica) for operation, place in zip(operations, places) if place[one] < place[two]]
+        told.append(f"{one} before {two} at replica{'s' if where[1:] else ''} {joined(where)}")
+    return ", ".join(told)
 
 
 def life(recording: Recording, name: str) -> str:
@@ -477,21 +492,3 @@ def list_before(evidence: Evidence, operation: Operation) -> list:
 
 def answer(evidence: Evidence, operation: Operation) -> str:
     return marked(operation.response, set(evidence.marks.get(operation.name, [])))
-
-
-def marked(names: list, marks: set) -> str:
-    """The names, those to be marked in brackets; of a long list those and their neighbours, dots for the others."""
-    if not names:
-        return "(nothing)"
-    near = set(range(len(names)))
-    if len(names) > MOST_NAMES:
-        places = [place for place, name in enumerate(names) if name in marks][:MOST_NAMES // 3]
-        near = {place + step for place in places or [0] for step in (-1, 0, 1)} | {0, len(names) - 1}
-    shown = []
-    for place, name in enumerate(names):
-        if place in near:
-            shown.append(f"[{name}]" if name in marks else name)
-        elif shown[-1:] != [".."]:
-            shown.append("..")
-    told = f" ({len(names)} names)" if ".." in shown else ""
-    return " ".join(shown) + told
