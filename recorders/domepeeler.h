@@ -34,6 +34,10 @@
  *
  * A recording passes then where weak holds; `contents`, `position`, `doubled` and `refused 2` still fail, and so do warnings.
  *
+ * The program judges, in a process of its own. Where you say `#define DOMEPEELER_LINKED` before this file is included, and link with libdomepeeler
+ * (docs/library.md), the library does, in your process and in microseconds, unless a program is named by a call or by the environment's
+ * DOMEPEELER, or the process was forked.
+ *
  * domepeeler_stop(recording, 0, call_back, data) has the session judged after each call that takes a list. The call that answered wrong
  * calls back, where a debugger can stop, and answers 0; with 1, that after which weak doesn't hold.
  *
@@ -77,6 +81,9 @@
 #include <sys/stat.h>
 #include <sys/wait.h>
 #include <unistd.h>
+#ifdef DOMEPEELER_LINKED
+#include <domepeeler_judge.h>
+#endif
 
 #ifdef __cplusplus
 extern "C" {
@@ -1781,9 +1788,41 @@ static inline char *domepeeler_with_warnings(struct domepeeler *d, char *report,
     return domepeeler_said(d, &said);
 }
 
+#ifdef DOMEPEELER_LINKED
+/* What the program would print for this recording, by the library; free() it. NULL where there is no report. */
+static inline char *domepeeler_linked(struct domepeeler *d, int is_json) {
+    size_t room = 4096;
+    for (char *report; (report = (char *)malloc(room + 1)) != NULL; free(report)) {
+        struct domepeeler_end end = domepeeler_verdict(d->text, d->length, (uint32_t)is_json, report, room);
+        report[end.length <= room ? end.length : 0] = 0;
+        room = end.length;
+        if (end.status == DOMEPEELER_END_NO_ROOM) continue;
+        if (end.status <= DOMEPEELER_END_NOT_ACCEPTED && domepeeler_agrees(d, report, (int)end.status)) return report;
+        domepeeler_fail(d, "libdomepeeler ended with status %u: %.160s", (unsigned)end.status, end.length ? report : "memory");
+        free(report);
+        return NULL;
+    }
+    domepeeler_fail(d, "no memory");
+    return NULL;
+}
+#endif
+
+/* Whether the library judges: where it is linked, nobody names a program, the recording is no log of one replica, and this process was not
+ * forked. */
+static inline int domepeeler_is_linked(const struct domepeeler *d, const char *program) {
+#ifdef DOMEPEELER_LINKED
+    return (!program || !*program) && d->only < 0 && d->process == (long)getpid();
+#else
+    return (void)d, (void)program, 0;
+#endif
+}
+
 /* The program's own report, as JSON; free() it. NULL where there is none. */
 static inline char *domepeeler_report(struct domepeeler *d, const char *program) {
     if (!program) program = getenv("DOMEPEELER");
+#ifdef DOMEPEELER_LINKED
+    if (domepeeler_is_linked(d, program)) return domepeeler_linked(d, 1);
+#endif
     if (!program || !*program) program = "domepeeler";
     const char *many[] = {program, "verdict", "--json", "-", NULL}, *few[] = {program, "verdict", "--workers", "1", "--json", "-", NULL};
     int is_short = domepeeler_lines_now(d) < DOMEPEELER_SHORT;
@@ -1817,10 +1856,15 @@ static inline char *domepeeler_judge_now(struct domepeeler *d, const char *progr
 /* Whether the recording passes: it is accepted, or with `is_weak` weak holds, and there is no warning. */
 static inline unsigned domepeeler_passes_now(struct domepeeler *d, const char *program, int is_weak) {
     if (!program) program = getenv("DOMEPEELER");
+    int is_linked = domepeeler_is_linked(d, program);
     if (!program || !*program) program = "domepeeler";
     const char *many[] = {program, "verdict", "-", NULL}, *few[] = {program, "verdict", "--workers", "1", "-", NULL};
     int is_short = domepeeler_lines_now(d) < DOMEPEELER_SHORT;
-    char *report = domepeeler_ask(d, is_short ? few : many, "DOMEPEELER to the program's path", "report", 'r');
+    char *report = NULL;
+    if (!is_linked) report = domepeeler_ask(d, is_short ? few : many, "DOMEPEELER to the program's path", "report", 'r');
+#ifdef DOMEPEELER_LINKED
+    if (is_linked) report = domepeeler_linked(d, 0);
+#endif
     if (!report) return 0;
     const char *verdict = strchr(report, '\n');
     if (verdict) d->is_new = 0;

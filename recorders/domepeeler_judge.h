@@ -4,7 +4,7 @@
  *
  *     char report[65536];
  *     struct domepeeler_end end = domepeeler_verdict(trace, strlen(trace), 0, report, sizeof report);
- *     if (end.status != DOMEPEELER_ACCEPTED) printf("%.*s", end.status == DOMEPEELER_SHORT ? 0 : (int)end.length, report);
+ *     if (end.status != DOMEPEELER_END_ACCEPTED) printf("%.*s", end.status == DOMEPEELER_END_NO_ROOM ? 0 : (int)end.length, report);
  *
  * Each call reads what it is given and writes into the room that it is given, and nothing else. It starts no thread and keeps nothing, so calls
  * may be made from many threads at once. Memory comes from malloc() and goes back by free() before the call ends.
@@ -22,18 +22,18 @@ extern "C" {
 #endif
 
 enum {
-    DOMEPEELER_ACCEPTED = 0,     /* as the exit status of the command: some order has all responses; of verify: yes */
-    DOMEPEELER_NOT_ACCEPTED = 1, /* a fault, or no order has all responses; of verify: no */
-    DOMEPEELER_NO_RECORDING = 2, /* the text is no trace: `line` is the first faulty line, and the output says why */
-    DOMEPEELER_NO_MEMORY = 3,    /* malloc() failed: there is no output */
-    DOMEPEELER_SHORT = 4         /* the room has fewer than `length` bytes: nothing was written */
+    DOMEPEELER_END_ACCEPTED = 0,     /* as the exit status of the command: some order has all responses; of verify: yes */
+    DOMEPEELER_END_NOT_ACCEPTED = 1, /* a fault, or no order has all responses; of verify: no */
+    DOMEPEELER_END_NO_TRACE = 2,     /* the text is no trace: `line` is the first faulty line, and the output says why */
+    DOMEPEELER_END_NO_MEMORY = 3,    /* malloc() failed: there is no output */
+    DOMEPEELER_END_NO_ROOM = 4       /* the room has fewer than `length` bytes: nothing was written */
 };
 
 /* How a call ended. */
 struct domepeeler_end {
     uint32_t status;
-    uint32_t line;   /* from 1 where the text is no trace, else 0 */
-    size_t length;   /* how many bytes the output has, without a NUL behind them */
+    uint32_t line; /* from 1 where the text is no trace, else 0 */
+    size_t length; /* how many bytes the output has, without a NUL behind them */
 };
 
 /* The report that `domepeeler verdict` writes for this trace; with `json` other than 0, that of `domepeeler verdict --json`. For a text that is no

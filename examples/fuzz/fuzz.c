@@ -118,7 +118,7 @@ int LLVMFuzzerTestOneInput(const uint8_t *bytes, size_t count) {
         else receive(r, (r + action - 1) % REPLICAS);
     }
     struct domepeeler_end end = domepeeler_verdict(trace, written, 0, report, sizeof report);
-    if (end.status == DOMEPEELER_ACCEPTED) return 0;
-    fprintf(stderr, "%.*s%.*s", (int)written, trace, end.status == DOMEPEELER_SHORT ? 0 : (int)end.length, report);
+    if (end.status == DOMEPEELER_END_ACCEPTED) return 0;
+    fprintf(stderr, "%.*s%.*s", (int)written, trace, end.status == DOMEPEELER_END_NO_ROOM ? 0 : (int)end.length, report);
     abort();
 }

@@ -23,7 +23,7 @@ static napi_value named(napi_env env, napi_value object, const char *name, const
 /* How the command would end. */
 static napi_value ended(napi_env env, struct domepeeler_end end, const char *output) {
     static const char before[] = "finder: ";
-    int is_report = end.status == DOMEPEELER_ACCEPTED || end.status == DOMEPEELER_NOT_ACCEPTED;
+    int is_report = end.status == DOMEPEELER_END_ACCEPTED || end.status == DOMEPEELER_END_NOT_ACCEPTED;
     char words[256];
     size_t length = 0;
     if (!is_report) {
@@ -47,9 +47,9 @@ static napi_value verdict(napi_env env, napi_callback_info info) {
         napi_get_value_string_utf8(env, given, NULL, 0, &length) != napi_ok)
         return thrown(env, "verdict wants a trace's text");
     char *trace = malloc(length + 1), *output = NULL;
-    struct domepeeler_end end = {DOMEPEELER_SHORT, 0, 4096};
+    struct domepeeler_end end = {DOMEPEELER_END_NO_ROOM, 0, 4096};
     if (trace && napi_get_value_string_utf8(env, given, trace, length + 1, &length) == napi_ok) {
-        while (end.status == DOMEPEELER_SHORT) {
+        while (end.status == DOMEPEELER_END_NO_ROOM) {
             size_t room = end.length;
             char *more = realloc(output, room);
             if (!more) break;
@@ -57,7 +57,7 @@ static napi_value verdict(napi_env env, napi_callback_info info) {
             end = domepeeler_verdict(trace, length, 1, output, room);
         }
     }
-    napi_value answer = end.status == DOMEPEELER_SHORT ? thrown(env, "out of memory") : ended(env, end, output);
+    napi_value answer = end.status == DOMEPEELER_END_NO_ROOM ? thrown(env, "out of memory") : ended(env, end, output);
     free(trace);
     free(output);
     return answer;

@@ -70,8 +70,8 @@ static int refuse(int which) {
             without++;
             continue;
         }
-        if (end.status == DOMEPEELER_NO_RECORDING && end.line == wanted.line && end.length == 0) continue; /* no memory for the words alone */
-        if (end.status != DOMEPEELER_NO_MEMORY || end.length != 0 || memcmp(room, untouched, ROOM) != 0)
+        if (end.status == DOMEPEELER_END_NO_TRACE && end.line == wanted.line && end.length == 0) continue; /* no memory for the words alone */
+        if (end.status != DOMEPEELER_END_NO_MEMORY || end.length != 0 || memcmp(room, untouched, ROOM) != 0)
             return printf("call %d ends with %u when request %ld is refused\n", which, end.status, n), 1;
     }
 }

@@ -225,6 +225,29 @@ console.log(verdict, judgedBy)
     tally.check("a library that is not there", done.returncode == 1 and "/nowhere/x.so cannot be loaded" in done.stderr, done)
 
 
+def linked(tally: Tally, program: str, folder: Path) -> None:
+    """The recorder of C, by the library that is linked and by the program: the same words of each session. A program that is named goes before."""
+    said = {}
+    for compiler, suffix in ("cc", "c"), ("c++", "cc"):
+        copy = folder / f"linked.{suffix}"
+        copy.write_text((HERE / "linked.c").read_text().replace("../../recorders/", ""))
+        words = [compiler, "-O2", "-Wall", "-Wextra", "-Werror", "-I", str(ROOT / "recorders"), str(copy)]
+        subprocess.run([*words, "-o", str(folder / "started"), "-pthread"], check=True)
+        subprocess.run([*words, "-DDOMEPEELER_LINKED", str(folder / "libdomepeeler.a"), "-o", str(folder / "linked"), "-pthread"], check=True)
+        asked = {name: value for name, value in os.environ.items() if not name.startswith("DOMEPEELER")}
+        named = asked | {"DOMEPEELER": program, "DOMEPEELER_EXPLAIN": str(ROOT / "tools" / "explain")}
+        explained = asked | {"DOMEPEELER_EXPLAIN": f"{folder}/explain"}
+        (folder / "explain").write_text(f"#!/bin/sh\nDOMEPEELER='{program}' exec '{ROOT}/tools/explain' \"$@\"\n")
+        (folder / "explain").chmod(0o755)
+        for name, done in ("started", subprocess.run([str(folder / "started")], env=named, capture_output=True, text=True)), \
+                ("linked", subprocess.run([str(folder / "linked")], env=explained | {"PATH": "/nowhere:/usr/bin:/bin"}, capture_output=True, text=True)):
+            said[compiler, name] = done.stdout.replace(str(copy), "linked")
+            tally.check(f"{compiler}, {name}", done.returncode == 0 and "refused 3" in done.stdout and "stopped contents" in done.stdout, done)
+        wrong = subprocess.run([str(folder / "linked")], env=explained | {"DOMEPEELER": "/nowhere/else"}, capture_output=True, text=True)
+        tally.check(f"{compiler}, another program is named", "/nowhere/else cannot be run" in wrong.stdout, wrong)
+    tally.check("the same words", len(set(said.values())) == 1, said)
+
+
 def by_addon(tally: Tally, folder: Path, addon: Path) -> None:
     """The addon of Node.js answers as the program would, on the vectors, on what is no trace, and on a report that is longer than its first room; and
     refuses what is no text."""
@@ -324,6 +347,7 @@ def main() -> None:
         short_rooms(tally, library, b"trace 1\nreplicas 1\n0 del\n")
         in_c(tally, folder)
         page(tally, program, folder)
+        linked(tally, program, folder)
         many(tally, program, folder, rnd)
         fuzzed(tally, folder)
     tally.close()
