@@ -30,6 +30,8 @@
 //! Where a test fails by itself, the trace of each recording that it drops then is saved, and standard error has the verdict. A recording that is
 //! dropped while nothing has judged it, saved it or taken its text panics; so does one of which something was recorded since.
 //!
+//! The program judges, in a process of its own; after `judge_here(domepeeler_native::verdict)` the library does, in yours (domepeeler_native.rs).
+//!
 //! Replicas and positions are `usize`; operations' numbers, clocks and counts of changes are `u32`.
 //!
 //! Where updates have vector clocks, `received_clock` writes the receipts, and refuses what is not causal.
@@ -61,6 +63,7 @@ const MOST_PLACES: usize = 262_144;
 const MOST_BYTES: usize = 32;
 const UUID_BYTES: usize = 36;
 const HEAD_LINES: usize = 2; // of a trace, before its entries
+const PROGRAM: &str = "domepeeler"; // where none is named
 const LANGUAGE: &str = "rust"; // by its name for the explainer
 const WARNINGS: &str = "\nWhat this verdict may hide\n"; // a title in the explainer's words
 const LAST: &str = "\nThe list specifications\n"; // that of the last section there
@@ -760,7 +763,7 @@ impl Recording {
     /// The program's report on this recording, as JSON. It has one more key, `warnings`: where the verdict is accepted, or weak holds, a list
     /// of what that may hide, and else whether calls were refused. The program is that of $DOMEPEELER, or `domepeeler`.
     pub fn judge(&self) -> Result<Answer, String> {
-        self.judge_by(&named("DOMEPEELER", "domepeeler"))
+        self.judge_by(&named("DOMEPEELER", PROGRAM))
     }
 
     /// The report of the program at this path.
@@ -796,7 +799,7 @@ impl Recording {
 
     /// The program's verdict on this recording. The program is that of $DOMEPEELER, or `domepeeler`.
     pub fn verdict(&self) -> Result<Verdict, String> {
-        self.verdict_by(&named("DOMEPEELER", "domepeeler"))
+        self.verdict_by(&named("DOMEPEELER", PROGRAM))
     }
 
     /// The verdict of the program at this path.
@@ -833,7 +836,7 @@ impl Recording {
             Some(goal) => goal,
             None => return,
         };
-        let verdict = match self.verdict_alone(&named("DOMEPEELER", "domepeeler")) {
+        let verdict = match self.verdict_alone(&named("DOMEPEELER", PROGRAM)) {
             Ok(verdict) if is_right(&verdict) => return,
             Ok(verdict) => verdict,
             Err(why) => panic!("{why}"),
@@ -1018,6 +1021,9 @@ impl Recording {
     fn ask(&self, program: &str, words: &[&str], named: &str, lacking: &str) -> Result<Output, String> {
         if self.only.is_some() {
             return Err(ONE_LOG.to_string());
+        }
+        if let Some(done) = ended_here(program, words, &self.lines) {
+            return if matches!(done.status.code(), Some(0 | 1)) { Ok(done) } else { Err(ended(program, &done, lacking)) };
         }
         let shown = escaped(program);
         let failed = |why: io::Error| format!("{shown} cannot be run ({why}): set {named}");
@@ -2014,6 +2020,40 @@ fn is_uuid(given: &str) -> bool {
 }
 
 /// What the variable names, or the command.
+/// What judges a trace in this process, as `domepeeler_native::verdict` does: given the text, and whether JSON is wanted, it answers the status with
+/// which the program would end, what it would print, and what it would say on standard error.
+pub type Judge = fn(&str, bool) -> (i32, Vec<u8>, Vec<u8>);
+
+static HERE: Mutex<Option<(u32, Judge)>> = Mutex::new(None); // with the number of the process
+
+/// From now on this judges the recordings of this process, but not where a call or $DOMEPEELER names a program, nor in a forked process.
+pub fn judge_here(judge: Judge) {
+    *HERE.lock().unwrap_or_else(std::sync::PoisonError::into_inner) = Some((std::process::id(), judge));
+}
+
+/// How the program would end, where something judges in its place.
+fn ended_here(program: &str, words: &[&str], trace: &str) -> Option<Output> {
+    let (process, judge) = (*HERE.lock().unwrap_or_else(std::sync::PoisonError::into_inner))?;
+    let is_named = program != PROGRAM || std::env::var("DOMEPEELER").map_or(false, |named| !named.is_empty());
+    if words.first() != Some(&"verdict") || is_named || process != std::process::id() {
+        return None;
+    }
+    let (status, stdout, stderr) = judge(trace, words.contains(&"--json"));
+    Some(Output { status: exit_status(status)?, stdout, stderr })
+}
+
+#[cfg(unix)]
+fn exit_status(status: i32) -> Option<std::process::ExitStatus> {
+    use std::os::unix::process::ExitStatusExt;
+
+    Some(std::process::ExitStatus::from_raw(status << 8))
+}
+
+#[cfg(not(unix))]
+fn exit_status(_status: i32) -> Option<std::process::ExitStatus> {
+    None
+}
+
 fn named(variable: &str, command: &str) -> String {
     std::env::var(variable).ok().filter(|named| !named.is_empty()).unwrap_or_else(|| command.to_string())
 }

@@ -12,6 +12,7 @@ import json
 import os
 import random
 import re
+import shutil
 import subprocess
 import sys
 import tempfile
@@ -248,6 +249,18 @@ def linked(tally: Tally, program: str, folder: Path) -> None:
     tally.check("the same words", len(set(said.values())) == 1, said)
 
 
+def native(tally: Tally, program: str, folder: Path) -> None:
+    """The recorder of Rust, by the library that is linked and by the program: the same words; without a warning of the compiler."""
+    for file in ROOT / "recorders" / "domepeeler.rs", ROOT / "recorders" / "domepeeler_native.rs", HERE / "native.rs":
+        shutil.copy(file, folder)
+    made = subprocess.run(["rustc", "-O", "-D", "warnings", "--edition", "2021", "native.rs", "-L", ".", "-o", "native"], cwd=folder)
+    asked = {name: value for name, value in os.environ.items() if not name.startswith("DOMEPEELER")}
+    told = [subprocess.run([str(folder / "native")], cwd=folder, env=asked | more, capture_output=True, text=True)
+            for more in ({"PATH": "/nowhere"}, {"DOMEPEELER": program})]
+    tally.check("Rust", made.returncode == 0 and told[0].stdout == told[1].stdout and "contents 1.5" in told[0].stdout
+                and "/nowhere/else cannot be run" in told[0].stdout and [done.returncode for done in told] == [0, 0], told)
+
+
 def by_addon(tally: Tally, folder: Path, addon: Path) -> None:
     """The addon of Node.js answers as the program would, on the vectors, on what is no trace, and on a report that is longer than its first room; and
     refuses what is no text."""
@@ -326,7 +339,7 @@ def names(tally: Tally, folder: Path) -> None:
 
 def main() -> None:
     program = program_of(sys.argv)
-    for command, package in ("cc", "gcc"), ("c++", "g++"), ("clang", "clang"), ("pkg-config", "pkg-config"), ("node", "nodejs"):
+    for command, package in ("cc", "gcc"), ("c++", "g++"), ("clang", "clang"), ("pkg-config", "pkg-config"), ("node", "nodejs"), ("rustc", "rustc"):
         need(command, package)
     rnd, tally = random.Random(SEED), Tally()
     with tempfile.TemporaryDirectory() as name:
@@ -348,6 +361,7 @@ def main() -> None:
         in_c(tally, folder)
         page(tally, program, folder)
         linked(tally, program, folder)
+        native(tally, program, folder)
         many(tally, program, folder, rnd)
         fuzzed(tally, folder)
     tally.close()
