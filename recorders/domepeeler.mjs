@@ -367,7 +367,8 @@ export class Recording {
   /** A promise of the program's report on this recording, and as `warnings` what it may hide where it says `accepted`, or that weak holds,
    * asked for or not; and of any whether calls were refused. It answers, and never fails where the recording is wrong: look at the
    * answer. The program is the words that are given, or that of $DOMEPEELER. Where neither names one, the library judges in this process: that of
-   * $DOMEPEELER_LIBRARY, or the one that was installed with the `domepeeler` of the PATH. Else it is `domepeeler`. `judgedBy` says which it was. */
+   * $DOMEPEELER_LIBRARY, that of this package, or the one that was installed with the `domepeeler` of the PATH. Else it is `domepeeler`. `judgedBy`
+   * says which it was. */
   async judge(program = null, _goal = {}) {
     const report = this.#report(await modules(), program)
     const isPassing = report.verdict === "accepted" || report.weak === true
@@ -1117,7 +1118,7 @@ function checkId(changeId) {
 }
 
 // The library that judges in this process, and its path; null where there is none.
-function library({ fs, path: { delimiter, dirname, join } }) {
+function library({ fs, path: { delimiter, dirname, join }, url }) {
   const asked = process.env.DOMEPEELER_LIBRARY ?? "", on = process.env.PATH ?? ""
   if (loaded?.asked === asked && loaded.on === on) return loaded.library
   loaded = { asked, on, library: null }
@@ -1129,8 +1130,10 @@ function library({ fs, path: { delimiter, dirname, join } }) {
       return false
     }
   })
-  const path = asked ? join(dirname(asked), ADDON) : program ? join(dirname(dirname(fs.realpathSync(program))), "lib", "domepeeler", ADDON) : ""
-  if (!asked && !(path && fs.existsSync(path))) return null
+  const inPackage = import.meta.url.startsWith("file:") ? [url.fileURLToPath(new URL(ADDON, import.meta.url))] : []
+  const installed = program ? [join(dirname(dirname(fs.realpathSync(program))), "lib", "domepeeler", ADDON)] : []
+  const path = asked ? join(dirname(asked), ADDON) : [...inPackage, ...installed].find((file) => fs.existsSync(file))
+  if (!path) return null
   try {
     const module = { exports: {} }
     process.dlopen(module, path)

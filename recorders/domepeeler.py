@@ -421,8 +421,8 @@ class Recording:
     def judge(self, program: Optional[Words] = None, weak: bool = False) -> Report:
         """The program's report on this recording, and as `warnings` what it may hide where it says `accepted`, or that weak holds,
         asked for or not; and of any whether calls were refused. The program is the words that are given, or that of $DOMEPEELER. Where neither
-        names one, the library judges in this process: that of $DOMEPEELER_LIBRARY, or the one that was installed with the `domepeeler` of the
-        PATH; but not in a forked process. Else it is `domepeeler`. The report's `judged_by` says which it was."""
+        names one, the library judges in this process: that of $DOMEPEELER_LIBRARY, that of this package, or the one that was installed with the
+        `domepeeler` of the PATH; but not in a forked process. Else it is `domepeeler`. The report's `judged_by` says which it was."""
         report = self._report(program)
         is_passing = report["verdict"] == "accepted" or report.get("weak") is True
         report["warnings"] = self.warnings() if is_passing else self._refusals()
@@ -1145,10 +1145,11 @@ def _library() -> Optional[Callable[[bytes], Tuple[str, subprocess.CompletedProc
     there is no library."""
     import ctypes  # which takes a while, and is not wanted by who only records
 
-    asked = os.environ.get("DOMEPEELER_LIBRARY")
-    program = shutil.which("domepeeler")
-    path = asked or os.path.join(os.path.dirname(os.path.dirname(os.path.realpath(program or ""))), LIBRARY)
-    if not asked and (program is None or not os.path.isfile(path)):
+    asked, program = os.environ.get("DOMEPEELER_LIBRARY"), shutil.which("domepeeler")
+    in_package = os.path.join(os.path.dirname(os.path.abspath(__file__)), os.path.basename(LIBRARY))
+    installed = [os.path.join(os.path.dirname(os.path.dirname(os.path.realpath(program))), LIBRARY)] if program else []
+    path = asked or next(filter(os.path.isfile, [in_package, *installed]), "")
+    if not path:
         return None
     try:
         loaded = ctypes.CDLL(path)

@@ -21,7 +21,7 @@ from pathlib import Path
 
 ROOT = Path(__file__).resolve().parents[2]
 sys.path.insert(0, str(ROOT / "tests"))
-from shared.program import Ended, Quick, Tally, is_short, need, program_of  # noqa: E402
+from shared.program import Ended, Quick, Tally, install, is_installed, need, program_of  # noqa: E402
 from shared.sessions import session, with_fault  # noqa: E402
 
 SEED = 20261201
@@ -29,6 +29,8 @@ CASES = 10_000
 NO_RECORDING, NO_MEMORY, SHORT = 2, 3, 4
 NAMES = ["domepeeler_cert", "domepeeler_verdict", "domepeeler_verify", "domepeeler_version"]
 HERE = Path(__file__).resolve().parent
+VERSION = "0.2.0"
+DEBIAN_PYTHON = "/usr/bin/python3"
 MOST_KILOBYTES = 256  # that a million calls may add
 
 
@@ -261,6 +263,50 @@ def native(tally: Tally, program: str, folder: Path) -> None:
                 and "/nowhere/else cannot be run" in told[0].stdout and [done.returncode for done in told] == [0, 0], told)
 
 
+def packages(tally: Tally, folder: Path) -> None:
+    """The packages of Python, JavaScript and Rust carry the library where it is there when they are made, and judge by it without a choice."""
+    place = folder / "packages"
+    shutil.copytree(ROOT / "recorders", place / "recorders", ignore=shutil.ignore_patterns("build", "*.egg-info", "target", "__pycache__"))
+    asked = {name: value for name, value in os.environ.items() if not name.startswith("DOMEPEELER")}
+    making = asked | {"DOMEPEELER_LIBRARY": str(folder / "libdomepeeler.so.0")}
+    alone = asked | {"PATH": "/usr/bin:/bin"}
+    pip = [DEBIAN_PYTHON, "-m", "pip"]
+    subprocess.run([*pip, "wheel", "-q", "--no-build-isolation", "--no-deps", "-w", str(place), str(place / "recorders" / "python")], env=making, check=True)
+    wheels = sorted(place.glob("*.whl"))
+    tally.check("the wheel's name", [wheel.name for wheel in wheels] == [f"domepeeler-{VERSION}-py3-none-linux_x86_64.whl"], wheels)
+    subprocess.run([*pip, "install", "-q", "--no-deps", "--no-index", "--target", str(place / "python"), str(wheels[0])], check=True)
+    words = "from domepeeler import Recording; r = Recording(1); r.insert(0, 'a', 0, ['a']); report = r.judge(); print(report['verdict'], report.judged_by)"
+    done = subprocess.run([DEBIAN_PYTHON, "-c", words], cwd=place, env=alone | {"PYTHONPATH": str(place / "python")}, capture_output=True, text=True)
+    tally.check("Python's package", done.stdout == f"accepted {place}/python/domepeeler/libdomepeeler.so.0\n", done)
+    subprocess.run(["npm", "pack", "--silent"], cwd=place / "recorders" / "javascript", env=making, check=True, stdout=subprocess.DEVNULL)
+    tally.check("what npm leaves", not (place / "recorders" / "javascript" / "domepeeler.node").exists())
+    subprocess.run(["tar", "-xzf", f"recorders/javascript/domepeeler-{VERSION}.tgz"], cwd=place, check=True)
+    (place / "judged.mjs").write_text((folder / "judged.mjs").read_text().replace(str(ROOT / "recorders"), str(place / "package")))
+    node = shutil.which("node")
+    done = subprocess.run([node, str(place / "judged.mjs")], env=alone, capture_output=True, text=True)
+    tally.check("JavaScript's package", done.stdout == f"accepted {place}/package/domepeeler.node\n", done)
+    crate = place / "crate"
+    (crate / "src").mkdir(parents=True)
+    (crate / "Cargo.toml").write_text(f"""[package]
+name = "judged"
+version = "0.1.0"
+edition = "2021"
+
+[dependencies]
+domepeeler = {{ path = "{place}/recorders/rust", features = ["native"] }}
+""")
+    (crate / "src" / "main.rs").write_text("""fn main() {
+    domepeeler::judge_here(domepeeler::native::verdict);
+    let mut recording = domepeeler::Recording::new(1).unwrap();
+    recording.insert(0, "a", 0, &["a"]).unwrap();
+    println!("{}", recording.verdict().unwrap());
+}
+""")
+    done = subprocess.run(["cargo", "run", "--offline", "-q"], cwd=crate, env=asked | {"RUSTFLAGS": f"-L {folder} -D warnings"}, capture_output=True, text=True)
+    done = subprocess.run([str(crate / "target" / "debug" / "judged")], env=alone, capture_output=True, text=True) if done.returncode == 0 else done
+    tally.check("Rust's crate", done.stdout == "accepted\n", done)
+
+
 def by_addon(tally: Tally, folder: Path, addon: Path) -> None:
     """The addon of Node.js answers as the program would, on the vectors, on what is no trace, and on a report that is longer than its first room; and
     refuses what is no text."""
@@ -339,8 +385,9 @@ def names(tally: Tally, folder: Path) -> None:
 
 def main() -> None:
     program = program_of(sys.argv)
-    for command, package in ("cc", "gcc"), ("c++", "g++"), ("clang", "clang"), ("pkg-config", "pkg-config"), ("node", "nodejs"), ("rustc", "rustc"):
+    for command, package in ("cc", "gcc"), ("c++", "g++"), ("clang", "clang"), ("pkg-config", "pkg-config"), ("node", "nodejs"), ("npm", "npm"), ("rustc", "rustc"), ("cargo", "cargo"):
         need(command, package)
+    install([package for package in ("python3-pip", "python3-setuptools", "python3-wheel") if not is_installed(package)])
     rnd, tally = random.Random(SEED), Tally()
     with tempfile.TemporaryDirectory() as name:
         folder = Path(name)
@@ -362,6 +409,7 @@ def main() -> None:
         page(tally, program, folder)
         linked(tally, program, folder)
         native(tally, program, folder)
+        packages(tally, folder)
         many(tally, program, folder, rnd)
         fuzzed(tally, folder)
     tally.close()

@@ -30,6 +30,7 @@ PLACES = {
     "recorders/javascript/package.json": '"version": "',
     "recorders/python/pyproject.toml": '\nversion = "',
     "recorders/rust/Cargo.toml": '\nversion = "',
+    "tests/program/library.py": '\nVERSION = "',
     "tests/tools/explain.py": "echo domepeeler ",
     "tests/tools/judge_many.py": "domepeelers? ",
     "tests/tools/readme_commands.py": "domepeeler[_-]",
