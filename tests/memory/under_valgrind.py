@@ -3,10 +3,12 @@
 
 `verdict` and `cert` go over each vector, `verify` over its certificate too (not `live`, whose threads wait for one another for
 minutes under valgrind), `verdict` over each malformed trace, `verify` over each forged certificate and on each malformed trace, and
-`verdict` over so many changed texts, 1,000 unless told otherwise. The exit status and the texts must be those of a run without valgrind. It takes about a second of processor for
+`verdict` over so many changed texts, 1,000 unless told otherwise. The four calls of libdomepeeler go over all these traces and texts in one process,
+with rooms that are just long enough. The exit status and the texts must be those of a run without valgrind. It takes about a second of processor for
 each run, on all processors at once."""
 import os
 import random
+import subprocess
 import sys
 import tempfile
 from concurrent.futures import ThreadPoolExecutor
@@ -55,10 +57,28 @@ def asked(program: str, folder: str, many: int, has_live: bool = False):
         yield ["verdict", "-"], text
 
 
+def by_library(tally: Tally, folder: str, many: int) -> None:
+    """The calls of the library."""
+    subprocess.run([str(ROOT / "tools" / "library"), folder], check=True)
+    calls = os.path.join(folder, "calls")
+    subprocess.run(["cc", "-g", "-Wall", "-Wextra", "-Werror", str(ROOT / "tests" / "memory" / "library_calls.c"), os.path.join(folder, "libdomepeeler.a"), "-o", calls],
+                   check=True)
+    files = [str(trace) for pattern in ("*.trace", "malformed/*.trace") for trace in sorted(VECTORS.glob(pattern))]
+    for number, text in enumerate(changed_texts(many)):
+        files.append(os.path.join(folder, f"{number}.changed"))
+        Path(files[-1]).write_bytes(text)
+    parts = [files[place::os.cpu_count()] for place in range(os.cpu_count())]
+    with ThreadPoolExecutor(os.cpu_count()) as pool:
+        words = [[*VALGRIND, calls, *part] for part in parts]
+        for part, done in zip(parts, pool.map(lambda given: subprocess.run(["valgrind", *given], capture_output=True), words)):
+            tally.check("the library", (done.returncode, done.stdout, done.stderr) == (0, f"{len(part)} files\n".encode(), b""), done)
+
+
 def main() -> None:
     many = int(sys.argv[2]) if len(sys.argv) > 2 else MUTANTS
     program = program_of(sys.argv[:2])
     need("valgrind", "valgrind")
+    need("cc", "gcc")
     tally = Tally()
     with tempfile.TemporaryDirectory() as folder, ThreadPoolExecutor(os.cpu_count()) as pool:
         def tried(case) -> tuple:
@@ -66,6 +86,7 @@ def main() -> None:
             return words, text, run("valgrind", [*VALGRIND, program, *words], text), run(program, words, text)
         for words, text, got, wanted in pool.map(tried, asked(program, folder, many)):
             tally.same(f"{words} on {text[:300]!r}", got, wanted)
+        by_library(tally, folder, many)
     if many >= MUTANTS:
         note("tests/memory/under_valgrind.py", tally.said(), program)
     tally.close()
