@@ -370,9 +370,10 @@ export class Recording {
    * $DOMEPEELER_LIBRARY, that of this package, or the one that was installed with the `domepeeler` of the PATH. Else it is `domepeeler`. `judgedBy`
    * says which it was. */
   async judge(program = null, _goal = {}) {
-    const report = this.#report(await modules(), program)
+    const { report, name } = this.#report(await modules(), program)
     const isPassing = report.verdict === "accepted" || report.weak === true
-    return { ...report, warnings: isPassing ? await this.warnings() : this.refusals() }
+    const answer = { ...report, warnings: isPassing ? await this.warnings() : this.refusals() }
+    return Object.defineProperty(answer, "judgedBy", { value: name }) // no part of the report
   }
 
   // The program's report on this recording.
@@ -387,7 +388,7 @@ export class Recording {
     if (isAccepted !== (done.status === 0) || report.operations !== operations)
       throw new Error(`${escaped(name)} ended with status ${done.status} and printed a report that is not on this recording`)
     unread.delete(this.#number)
-    return { ...report, judgedBy: name }
+    return { report, name }
   }
 
   // Records by this function what the editor answered; where that is asked for, the session up to it is judged. An error begins at the
@@ -410,7 +411,7 @@ export class Recording {
     const node = modulesAtOnce()
     let report
     try {
-      report = this.#report(node, null)
+      report = this.#report(node, null).report
     } catch (why) {
       this.#markUnread()
       return why

@@ -2034,7 +2034,7 @@ pub fn judge_here(judge: Judge) {
 /// How the program would end, where something judges in its place.
 fn ended_here(program: &str, words: &[&str], trace: &str) -> Option<Output> {
     let (process, judge) = (*HERE.lock().unwrap_or_else(std::sync::PoisonError::into_inner))?;
-    let is_named = program != PROGRAM || std::env::var("DOMEPEELER").map_or(false, |named| !named.is_empty());
+    let is_named = program != PROGRAM || !named("DOMEPEELER", "").is_empty();
     if words.first() != Some(&"verdict") || is_named || process != std::process::id() {
         return None;
     }
