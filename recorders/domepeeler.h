@@ -1817,6 +1817,12 @@ static inline int domepeeler_is_linked(const struct domepeeler *d, const char *p
 #endif
 }
 
+/* What judges this recording: "libdomepeeler", or the program of this name, or of the environment's DOMEPEELER, or "domepeeler". */
+static inline const char *domepeeler_judged_by(const struct domepeeler *d, const char *program) {
+    if (!program) program = getenv("DOMEPEELER");
+    return domepeeler_is_linked(d, program) ? "libdomepeeler" : program && *program ? program : "domepeeler";
+}
+
 /* The program's own report, as JSON; free() it. NULL where there is none. */
 static inline char *domepeeler_report(struct domepeeler *d, const char *program) {
     if (!program) program = getenv("DOMEPEELER");

@@ -2031,13 +2031,22 @@ pub fn judge_here(judge: Judge) {
     *HERE.lock().unwrap_or_else(std::sync::PoisonError::into_inner) = Some((std::process::id(), judge));
 }
 
-/// How the program would end, where something judges in its place.
-fn ended_here(program: &str, words: &[&str], trace: &str) -> Option<Output> {
+/// What judges recordings where no call names a program: `libdomepeeler`, or what else was given to `judge_here`; or the program of $DOMEPEELER, or
+/// `domepeeler`.
+pub fn judged_by() -> String {
+    judge_of(PROGRAM).map_or_else(|| named("DOMEPEELER", PROGRAM), |_| "libdomepeeler".to_string())
+}
+
+/// What judges in this process in the place of the program, if anything does.
+fn judge_of(program: &str) -> Option<Judge> {
     let (process, judge) = (*HERE.lock().unwrap_or_else(std::sync::PoisonError::into_inner))?;
     let is_named = program != PROGRAM || !named("DOMEPEELER", "").is_empty();
-    if words.first() != Some(&"verdict") || is_named || process != std::process::id() {
-        return None;
-    }
+    (!is_named && process == std::process::id()).then_some(judge)
+}
+
+/// How the program would end, where something judges in its place.
+fn ended_here(program: &str, words: &[&str], trace: &str) -> Option<Output> {
+    let judge = judge_of(program).filter(|_| words.first() == Some(&"verdict"))?;
     let (status, stdout, stderr) = judge(trace, words.contains(&"--json"));
     Some(Output { status: exit_status(status)?, stdout, stderr })
 }

@@ -244,6 +244,7 @@ def linked(tally: Tally, program: str, folder: Path) -> None:
         (folder / "explain").chmod(0o755)
         for name, done in ("started", subprocess.run([str(folder / "started")], env=named, capture_output=True, text=True)), \
                 ("linked", subprocess.run([str(folder / "linked")], env=explained | {"PATH": "/nowhere:/usr/bin:/bin"}, capture_output=True, text=True)):
+            tally.check(f"{compiler}, {name}, says who judges", done.stderr.startswith("libdomepeeler\n" if name == "linked" else f"{program}\n"), done.stderr)
             said[compiler, name] = done.stdout.replace(str(copy), "linked")
             tally.check(f"{compiler}, {name}", done.returncode == 0 and "refused 3" in done.stdout and "stopped contents" in done.stdout, done)
         wrong = subprocess.run([str(folder / "linked")], env=explained | {"DOMEPEELER": "/nowhere/else"}, capture_output=True, text=True)
@@ -259,6 +260,7 @@ def native(tally: Tally, program: str, folder: Path) -> None:
     asked = {name: value for name, value in os.environ.items() if not name.startswith("DOMEPEELER")}
     told = [subprocess.run([str(folder / "native")], cwd=folder, env=asked | more, capture_output=True, text=True)
             for more in ({"PATH": "/nowhere"}, {"DOMEPEELER": program})]
+    tally.check("Rust says who judges", [done.stderr for done in told] == ["libdomepeeler\n", f"{program}\n"], told)
     tally.check("Rust", made.returncode == 0 and told[0].stdout == told[1].stdout and "contents 1.5" in told[0].stdout
                 and "/nowhere/else cannot be run" in told[0].stdout and [done.returncode for done in told] == [0, 0], told)
 

@@ -58,7 +58,9 @@ static void weak_alone(void) {
 
 int main(int count, char **words) {
     (void)words;
-    tell(domepeeler_new(1));
+    struct domepeeler *empty = domepeeler_new(1);
+    fprintf(stderr, "%s\n", domepeeler_judged_by(empty, NULL));
+    tell(empty);
     session(0, 0, 1);
     session(0, 1, 1);
     session(1, 0, 1);

@@ -28,6 +28,7 @@ fn per_second(sessions: u32, mut one: impl FnMut()) -> f64 {
 
 fn main() {
     domepeeler::judge_here(domepeeler_native::verdict);
+    eprintln!("{}", domepeeler::judged_by());
     for wrong in [false, true] {
         let recording = session(wrong);
         println!("{}", recording.verdict().unwrap());
