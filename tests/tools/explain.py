@@ -66,8 +66,8 @@ def stop(line: int, doing: str, *others: int, together: int = 0) -> str:
     stops = f"It stops when {line - 1} lines have been recorded."
     if together:
         both = f"lines {together} and {line}" if together + 1 == line else f"several of lines {together} to {line}"
-        stops = (f"It stops when {together - 1} lines have been recorded, and again when {line - 1} have: look at what happens after the second stop. If there is no second one, one call applies "
-                 f"what {both} record: look at what happens after the first.")
+        stops = (f"One call may apply what {both} record. So the code stops before line {together}, when {together - 1} lines have been recorded, and again before line {line}, if that has a call of its own: "
+                 "look at what happens after the last stop.")
     asked = f"if recording.lines() in ({together - 1}, {line - 1}): breakpoint()" if together else asked
     where += f". {stops}"
     return f"|In a debugger|stop before line {line} of the trace, where {doing}.|In Python, put this code {where}|{asked}"
@@ -120,12 +120,12 @@ WORDS = [
      "1 del a : b c z|0 ins p 1 : a p b c z|1 recv 0 5|1 read : p b c z|1 del b : p c z|0 ins q 3 : a p b q c z|1 recv 0 6|1 read : p q c z|1 del c : p q z|"
      "0 ins r 5 : a p b q c r z|1 recv 0 7|1 read : p q r z|1 del r : p q z|0 ins s 6 : a p b q c r s z|1 recv 0 8|1 read : p q z s",
      "Where to look|When replica 0 inserted [s] (0.8, line 22), it had [z] already, and put [s] before it. That order must hold everywhere, but 1.9 (line 24) shows [s] behind [z]. "
-     "Look at the message that replica 0 made for that insert, and at where replica 1 placed it in line 23. Often the clock that decides between inserts does not advance when changes arrive, or advances past only the first element of a paste; or the neighbour is not found; or elements are stored in runs (blocks of several), and a run is split at a wrong offset (the offset must count deleted elements too).|If inserts find their place by a neighbour, look at inserts beside deleted elements: s came to replica 1 in line 23, where its neighbour r had been "
+     "Look at the message that replica 0 made for that insert, and at where replica 1 placed it in line 23. Often the clock that decides between inserts does not advance when changes arrive. When several elements arrive in one change, it must pass the last one's number. Or the neighbour is not found. Or elements are stored in runs (blocks of several), and a run is split at a wrong offset (the offset must count deleted elements too).|If inserts find their place by a neighbour, look at inserts beside deleted elements: s came to replica 1 in line 23, where its neighbour r had been "
      "deleted. If replicas throw deleted elements away, nothing says then where the insert belongs; if they keep them, the search for its place must treat them like elements that are shown.|"
      "If the list is sorted by position identifiers, print those of r, s and z at line 22. They must rise in this order. If they do not, look at how the identifier of s was made; if they do, at how "
      "identifiers are compared (numbers must not be compared as text).|If the editor sends positions, the position of s was perhaps not adjusted for the delete of a by 1.2 (line 9), the delete of b "
      "by 1.4 (line 13), the delete of c by 1.6 (line 17) and the delete of r by 1.8 (line 21), which replica 1 knew and the author of s did not. "
-     "Or perhaps 1.2, still on its way, was not adjusted for the insert of p by 0.5 (line 10), the insert of q by 0.6 (line 14) and the insert of r by 0.7 (line 18), which came to replica 1 meanwhile." + stop(23, "replica 1 applies 0.8", 7)),
+     "Or perhaps replica 1's own change 1.2 was not adjusted for the insert of p by 0.5 (line 10), the insert of q by 0.6 (line 14) and the insert of r by 0.7 (line 18), whose author did not have 1.2 yet." + stop(23, "replica 1 applies 0.8", 7)),
     ("a local delete whose change names another element than the one that is gone", 2, "0 ins a 0 : a|1 recv 0 1|1 ins b 1 : a b|1 del a : b|1 del c :",
      "Where to look|1.3 (line 7) deletes c; but c does not stand in 1.2 (line 6) and no line inserts it, while b is gone. Look at which ids a local delete puts into "
      "the change that it sends: where it deletes several, each element has an id of its own, and these need not be consecutive." + stop(7, "replica 1 deletes c", together=6)),
@@ -150,7 +150,7 @@ WORDS = [
      "[a] before [b]: line 5 of the trace, 1.1: replica 1 inserted b at position 1, answered [a] [b]|"
      "[b] before [a]: line 7, 0.2: replica 0 read the list, answered [b] [a]|"
      "a arrived at replica 1 in line 4, b at replica 0 in line 6|"
-     "When replica 1 inserted [b] (1.1, line 5), it had [a] already (since line 4), and put [b] behind it. That order must hold everywhere, but 0.2 (line 7) shows [b] before [a]. Look at the message that replica 1 made for that insert, and at where replica 0 placed it in line 6. Often the clock that decides between inserts does not advance when changes arrive, or advances past only the first element of a paste; or the neighbour is not found; or elements are stored in runs (blocks of several), and a run is split at a wrong offset.|"
+     "When replica 1 inserted [b] (1.1, line 5), it had [a] already (since line 4), and put [b] behind it. That order must hold everywhere, but 0.2 (line 7) shows [b] before [a]. Look at the message that replica 1 made for that insert, and at where replica 0 placed it in line 6. Often the clock that decides between inserts does not advance when changes arrive. When several elements arrive in one change, it must pass the last one's number. Or the neighbour is not found. Or elements are stored in runs (blocks of several), and a run is split at a wrong offset.|"
      "If the list is sorted by position identifiers, print those of a and b at line 5. They must rise in this order. If they do not, look at how the identifier of b was made; if they do, at how identifiers are compared (numbers must not be compared as text)." + stop(6, "replica 0 applies 1.1", 4)),
     ("three-way cycle", 3, THREE_WAY,
      "refused 3: three responses can't be right together. Any two of them can.|"
@@ -175,20 +175,31 @@ WORDS = [
      "c arrived at replica 0 in line 6, d at replica 1 in line 10||Where to look|"
      "If inserts find their place by a neighbour, look at inserts beside deleted elements: d "
      "came to replica 1 in line 10, where its neighbour b had been deleted. If replicas throw deleted elements away, nothing says then where the insert belongs; if they keep them, the search for its place must treat them like elements that are shown.|"
-     "When replica 0 inserted [d] (0.3, line 9), it had [c] already (since line 6), and put [d] before it. That order must hold everywhere, but 1.3 (line 11) shows [d] behind [c]. Look at the message that replica 0 made for that insert, and at where replica 1 placed it in line 10. Often the clock that decides between inserts does not advance when changes arrive, or advances past only the first element of a paste; or the neighbour is not found; or elements are stored in runs (blocks of several), and a run is split at a wrong offset (the offset must count deleted elements too).|"
+     "When replica 0 inserted [d] (0.3, line 9), it had [c] already (since line 6), and put [d] before it. That order must hold everywhere, but 1.3 (line 11) shows [d] behind [c]. Look at the message that replica 0 made for that insert, and at where replica 1 placed it in line 10. Often the clock that decides between inserts does not advance when changes arrive. When several elements arrive in one change, it must pass the last one's number. Or the neighbour is not found. Or elements are stored in runs (blocks of several), and a run is split at a wrong offset (the offset must count deleted elements too).|"
      "If the list is sorted by position identifiers, print those of b, d and c at line 9. They must rise in this order. If they do not, look at how the identifier of d was made; if they do, at how identifiers are compared (numbers must not be compared as text).|If the editor "
      "sends positions, the position of d was perhaps not adjusted for the delete of b by 1.2 (line 8), which replica 1 knew and the author of d did not." + stop(10, "replica 1 applies 0.3", 6)),
     ("an insert between two that were put together", 2, "0 ins a 0 : a|0 ins b 1 : a b|1 ins c 0 : c|1 recv 0 2|1 read : a c b|0 recv 1 1|0 read : a b c",
      "[c] before [b]: line 7, 1.2: replica 1 read the list, answered a [c] [b]|Where to look|"
      "[b] was put directly behind [a]. The author of [c] knew neither, and 1.2 (line 7) shows [c] between the two. If inserts find their place by a "
-     "neighbour, look at how [c] found its place there: a search that goes past [a] must also go past all that was put behind [a]; in a list that is kept in blocks it must not stop at a block's end.|"
+     "neighbour, look at how [b] found its place when it came to replica 1 in line 6. Its search begins behind [a]: should it have stopped before [c], which was not put behind [a]?|"
      "Look at the order of concurrent inserts: b and c were inserted without knowing of each other, and were shown in two different orders. Use a rule that "
      "gives the same order everywhere (such as the replicas' numbers), never the order of arrival. A shortcut, such as for appending, must use this rule too."),
+    ("an insert between two that were put together, which came last", 3, "0 ins a 0 : a|0 ins b 1 : a b|1 ins c 0 : c|2 recv 0 2|2 read : a b|2 recv 1 1|2 read : a c b|1 recv 0 2|1 read : a b c",
+     "Where to look|[b] was put directly behind [a]. The author of [c] knew neither, and 2.2 (line 9) shows [c] between the two. If inserts find their place by a neighbour, look at how [c] found its place "
+     "when it came to replica 2 in line 8: a search that goes past [a] must also go past all that was put behind [a]; in a list that is kept in blocks it must not stop at a block's end.|"),
+    ("an insert between two that were put together, which came with these", 4, "0 ins a 0 : a|0 ins b 1 : a b|1 ins c 0 : c|3 recv 0 2|3 recv 1 1|3 read : a b c|2 recv 3 1|2 read : a c b",
+     "Where to look|[b] was put directly behind [a]. The author of [c] knew neither, and 2.1 (line 10) shows [c] between the two. If inserts find their place by a neighbour, look at how [c] and [b] found "
+     "their places when they came to replica 2 in line 9: a search that goes past [a] must also go past all that was put behind [a]; in a list that is kept in blocks it must not stop at a block's end.|"),
+    ("an insert behind what the other author did not know, which is deleted, and it came last everywhere", 4, "0 ins a 0 : a|0 ins b 1 : a b|0 del a : b|1 ins c 0 : c|2 recv 1 1|2 recv 0 3|2 read : c b|"
+     "1 recv 0 3|1 read : b c", "Where to look|"
+     "[b] was put directly behind [a]. The author of [c] did not know [a]. If inserts find their place by a neighbour, look at how [b] found its place when it came to replica 1 in line 10. Its search begins "
+     "behind [a]: should it have stopped before [c], which was not put behind [a]? Look also at inserts beside deleted elements: a replica that has thrown away [a] when it was deleted can't know where [b] "
+     "belongs.|"),
     ("an insert behind what the other author did not know, which is deleted", 2, "0 ins a 0 : a|0 ins b 1 : a b|0 del a : b|1 ins c 0 : c|1 recv 0 3|"
      "1 read : c b|0 recv 1 1|0 read : b c", "Where to look|"
-     "[b] was put directly behind [a], which the author of [c] did not know. If inserts find their place by a neighbour, look at how [c] found its "
-     "place: a search that goes past [a] must also go past all that was put behind [a]; in a list that is kept in blocks it must not stop at a block's end. Look also at inserts beside "
-     "deleted elements: where [a] was thrown away as deleted, nothing says where [b] belongs.|"
+     "[b] was put directly behind [a]. The author of [c] did not know [a]. If inserts find their place by a neighbour, look at how [c] found its "
+     "place when it came to replica 0 in line 9: a search that goes past [a] must also go past all that was put behind [a]; in a list that is kept in blocks it must not stop at a block's end. Look also at "
+     "inserts beside deleted elements: a replica that has thrown away [a] when it was deleted can't know where [b] belongs.|"
      "Look at the order of concurrent inserts: b and c were inserted without knowing of each other, and were shown in two different orders. Use a rule that "
      "gives the same order everywhere (such as the replicas' numbers), never the order of arrival. A shortcut, such as for appending, must use this rule too."),
     ("an insert between two that are deleted by others", 3, "0 ins a 0 : a|0 ins b 1 : a b|1 recv 0 2|2 recv 0 2|2 ins c 1 : a c b|1 del a : b|"
@@ -208,7 +219,7 @@ WORDS = [
      "Where to look" + stop(10, "replica 1 applies 0.3", 6)),
     ("a session that goes on, where others stand in two orders in the end", 3, "0 ins a 0 : a|1 ins b 0 : b|0 recv 1 1|1 recv 0 1|0 read : a b|1 read : b a|0 ins c 2 : a b c|1 ins d 2 : a b d|"
      "0 recv 1 3|1 recv 0 3|2 recv 0 3|2 recv 1 3|0 read : a b c d|1 read : a b d c|2 read : a b d c",
-     "in the end replicas 0, 1 and 2 have every change, as the receipts say, and show the same elements in different orders: c before d at replica 0, d before c at replicas 1 and 2||"
+     "in the end replicas 0, 1 and 2 have every change, as the receipts say, and show the same elements in different orders: c before d at replica 0, d before c at replicas 1 and 2 (c and d are not in the circle below)||"
      "What these responses show: a circle, which no order allows|[a] before [b]: line 7, 0.2: replica 0 read the list, answered [a] [b]"),
     ("a session that goes on, with one list in the end", 2, f"{BESIDE_DELETED}|0 recv 1 2|0 read : c d",
      "When it showed|line 11 of the trace, 1.3: replica 1 read the list. Up to line 10 the session is accepted; with line 11 the verdict is `refused 2`|"
@@ -251,7 +262,7 @@ WORDS = [
      "1 read : c a",
      "[a] before [c]: line 5 of the trace, 0.3: replica 0 inserted c at position 2, answered [a] b [c]|"
      "[c] before [a]: line 9, 1.3: replica 1 read the list, answered [c] [a]|c: inserted by 0.3 (line 5)|"
-     "c was put behind b. At 1.3 (line 9), b was deleted already, by 1.2 (line 8)|c arrived at replica 1 in line 6, a at replica 1 in line 6" + stop(6, "replica 1 applies 0.3")),
+     "c was put behind b. At 1.3 (line 9), b was deleted already, by 1.2 (line 8)|c and a arrived together at replica 1 in line 6" + stop(6, "replica 1 applies 0.3")),
     ("an element between two that are deleted later", 2, "0 ins a 0 : a|0 ins b 1 : a b|0 ins c 1 : a c b|0 ins d 3 : a c b d|1 recv 0 4|"
      "1 read : a c b d|1 del a : c b d|1 del b : c d|1 read : d c",
      "c was put behind a and before b. At 1.4 (line 11), both were deleted already: a by 1.2 (line 9), b by 1.3 (line 10)"),
@@ -278,14 +289,14 @@ WORDS = [
      "line 7 of the trace, 2.1: replica 2 read the list|answered: b|it should hold, in any order: b [a]|"
      "before it: replica 2 did nothing, and received 1.1 (line 6, inserts b)|Missing|"
      "[a] inserted by 0.1 (line 3), which arrived at replica 1 in line 4 (1 recv 0 1). "
-     "Replica 2 should have had it since line 6 (2 recv 1 1): the author of 1.1 had it, so 1.1 must not arrive before it|[a] 0.1 has no receipt of its own at replica 2, though the author of 1.1 had it. So "
+     "Replica 2 should have had 0.1 since line 6 (2 recv 1 1): the author of 1.1 had 0.1, so 1.1 must not arrive before 0.1|[a] 0.1 has no receipt of its own at replica 2, though the author of 1.1 had it. So "
      "either the message of line 6 carried 0.1 too, or 1.1 came before 0.1, which is not causal order|[a] is never deleted||Where to look|"
      "Look first at whether 0.1 was lost on its way to replica 2: no receipt there names it. If it was not lost but overtaken, look at the order in which "
      "operations arrive. Your editor may be right, but it needs operations in causal order: apply an operation only after everything that its author had seen, or send all of that along with it. If the editor itself holds "
      f"operations back, write the receipt of each only when it is applied. {GUIDE} shows what to record in each case."),
     ("an element lost that arrived after what had seen it", 3,
      "0 ins a 0 : a|1 recv 0 1|1 ins b 1 : a b|2 recv 1 1|2 recv 0 1|2 read : b",
-     "line 8 of the trace, 2.1: replica 2 read the list|[a] 0.1's own receipt comes only in line 7 (2 recv 0 1). 1.1, whose author "
+     "line 8 of the trace, 2.1: replica 2 read the list|[a] the receipt of 0.1 itself comes only in line 7 (2 recv 0 1). 1.1, whose author "
      "already had 0.1, overtook it in line 6: that is not causal order|[a] is never deleted" + stop(6, "replica 2 applies 1.1")),
     ("an element lost that arrived by itself before", 3,
      "0 ins a 0 : a|2 recv 0 1|1 recv 0 1|1 ins b 1 : a b|2 recv 1 1|2 read : b",
@@ -299,7 +310,7 @@ WORDS = [
     ("a deleted element shown", 2, "0 ins a 0 : a|0 del a :|1 recv 0 2|1 read : a",
      "contents 1.1: this response has one element that should not be there.|"
      "answered: [a]|it should hold, in any order: (nothing)|Extra|"
-     "[a] inserted by 0.1 (line 3). Replica 1 should have had it since line 5 (1 recv 0 2): 0.2 is a later operation of the same author, so 0.2 must not arrive before it|"
+     "[a] inserted by 0.1 (line 3). Replica 1 should have had 0.1 since line 5 (1 recv 0 2): 0.2 is a later operation of the same author, so 0.2 must not arrive before 0.1|"
      "[a] deleted by 0.2 (line 4), which arrived at replica 1 in line 5 (1 recv 0 2)"),
     ("a deleted element shown, beside one that was there", 2, "0 ins a 0 : a|0 ins b 1 : a b|1 recv 0 2|1 read : a b|0 del b : a|1 recv 0 3|1 read : a b",
      "contents 1.2: this response has one element that should not be there.|answered: a [b]|it should hold, in any order: a|Extra|"
@@ -323,7 +334,7 @@ WORDS = [
     ("a delete that hits what is deleted already", 2, "0 ins a 0 : a|0 ins b 1 : a b|1 recv 0 2|1 read : a b|1 del a : b|0 del b : a|1 recv 0 3|1 read : b",
      "It looks as if 0.3 (line 8) was not applied at replica 1: lost, or held back, or `received` is called before the change is applied. Or that delete hit another element, one that was already deleted there: look at how a replica that applies a delete finds the element (is the whole id compared?)."),
     ("a change that is applied twice", 2, "0 ins a 0 : a|0 ins b 1 : a b|1 recv 0 2|1 read : a b a", "Named more than once|"
-     "[a] inserted by 0.1 (line 3). Replica 1 should have had it since line 5 (1 recv 0 2): 0.2 is a later operation of the same author, so 0.2 must not arrive before it||Where to look|"
+     "[a] inserted by 0.1 (line 3). Replica 1 should have had 0.1 since line 5 (1 recv 0 2): 0.2 is a later operation of the same author, so 0.2 must not arrive before 0.1||Where to look|"
      "It looks as if 0.1 (line 3) was applied twice at replica 1: look at what the editor does with a change that arrives a second time, and at "
      "whether a change that was held back is applied twice: on arrival and again later."),
     ("its own changes that come back", 1, "0 ins a 0 : a|0 ins b 1 : a b|0 read : a b a b", "Named more than once||Where to look|"
@@ -396,8 +407,8 @@ WORDS = [
     ("a change that a later one of its author overtook", 2, "0 ins a 0 : a|0 ins b 1 : a b|0 ins c 2 : a b c|1 recv 0 1|1 recv 0 3|1 read : a c|1 recv 0 2|"
      "1 read : a b c",
      "contents 1.1: this response lacks one element that replica 1 should have had by then.|Missing|"
-     "[b] inserted by 0.2 (line 4). Replica 1 should have had it since line 7 (1 recv 0 3): 0.3 is a later operation of the same author, so 0.3 must not arrive before it|"
-     "[b] 0.2's own receipt comes only in line 9 (1 recv 0 2). 0.3 overtook it in line 7: that is not causal order|[b] is never deleted|"
+     "[b] inserted by 0.2 (line 4). Replica 1 should have had 0.2 since line 7 (1 recv 0 3): 0.3 is a later operation of the same author, so 0.3 must not arrive before 0.2|"
+     "[b] the receipt of 0.2 itself comes only in line 9 (1 recv 0 2). 0.3 overtook it in line 7: that is not causal order|[b] is never deleted|"
      "Look at the order in which operations arrive: 0.2 was overtaken, as told above. Your editor may be right, but it needs operations in causal order: apply an operation only after everything that its author had seen, or send all of that along with it. If the editor itself holds "
      f"operations back, write the receipt of each only when it is applied. {GUIDE} shows what to record in each case."
      + stop(7, "replica 1 applies 0.3", together=6)),
@@ -405,16 +416,20 @@ WORDS = [
      "1 read : a|1 recv 0 3|1 read : a c|1 recv 0 4|1 read : a c d",
      "[b] 0.2 has no receipt of its own at replica 1, though all other changes of replica 0 have one. 0.2 was lost, or 0.3 overtook it in line 9"),
     ("one receipt for several changes of an author", 2, "0 ins a 0 : a|0 ins b 1 : a b|0 ins c 2 : a b c|1 recv 0 3|1 read : a c",
-     "[b] inserted by 0.2 (line 4). Replica 1 should have had it since line 6 (1 recv 0 3): 0.3 is a later operation of the same author, so 0.3 must not arrive before it|"
-     "[b] was put behind a. When it arrived at replica 1 in line 6, a was still there|[b] is never deleted||Where to "
+     "[b] inserted by 0.2 (line 4). Replica 1 should have had 0.2 since line 6 (1 recv 0 3): 0.3 is a later operation of the same author, so 0.3 must not arrive before 0.2|"
+     "[b] is never deleted||Where to "
      "look|It looks as if 0.2 (line 4) was not applied at replica 1: lost, or held back, or `received` is called before the change is applied.|No "
      "receipt at replica 1 names 0.2 (line 4): it counts as arrived with 0.3, in line 6. If you record a receipt for each change, 0.2 was "
      "lost, or 0.3 overtook it."),
+    ("a change that did not come, whose neighbour was there until it should have", 2, "0 ins a 0 : a|1 recv 0 1|1 read : a|0 ins b 1 : a b|0 ins c 2 : a b c|1 recv 0 3|1 read : a c",
+     "[b] was put behind a. It should have arrived at replica 1 by line 8, and until then a was still there|[b] is never deleted"),
+    ("a change that did not come, whose neighbour was deleted before it should have", 2, "0 ins a 0 : a|1 recv 0 1|1 read : a|1 del a :|0 ins b 1 : a b|0 ins c 2 : a b c|1 recv 0 3|1 read : c",
+     "[b] was put behind a. It should have arrived at replica 1 by line 9, and by then a was already deleted there by 1.2 (line 6)|[b] is never deleted"),
     ("a change that is lost before others of a server's order", 3, "0 ins a 0 : a|0 ins b 0 : b a|1 recv 0 1|1 read : a|1 ins c 1 : a c|2 recv 0 1|"
      "2 ins y 1 : a y|0 recv 2 1|0 recv 1 2|0 read : b a y c|1 recv 2 1|1 read : a c y|0 ins d 4 : b a y c d|0 ins e 5 : b a y c d e|1 recv 0 4|"
      "1 read : a c y d|1 recv 0 5|1 read : a c y d e",
      "Look first at whether 0.2 (line 4) was lost on its way to replica 1, or overtaken: no receipt there names it, though all other changes of "
-     "replica 0 have one. In an editor that sends positions, later changes then land in the wrong place.|"
+     "replica 0 that came there have a receipt. In an editor that sends positions, later changes then land in the wrong place.|"
      "Look at the order of concurrent inserts: c and y were inserted directly behind a without knowing of each other, and were shown in two different orders. Use a "
      "rule that gives the same order everywhere (such as the replicas' numbers), never the order of arrival. A shortcut, such as for appending, must use this rule too."
      + stop(4, "replica 0 inserts b, and follow 0.2 to replica 1")),
@@ -428,7 +443,7 @@ WORDS = [
      "writes the name of the element that was really deleted.|If the editor sends positions, the position of 1.2 was perhaps not adjusted for the insert of c by 0.3 (line 8), which the author of 1.2 had not seen." + stop(9, "replica 0 applies 1.2")),
     ("an insert that another one at its place has shifted", 2, "0 ins b 0 : b|0 ins c 0 : c b|1 ins a 0 : a|1 recv 0 1|1 read : a b|1 recv 0 2|"
      "1 read : a b c",
-     "When replica 0 inserted [c] (0.2, line 4), it had [b] already, and put [c] before it. That order must hold everywhere, but 1.3 (line 9) shows [c] behind [b]. Look at the message that replica 0 made for that insert, and at where replica 1 placed it in line 8. Often the clock that decides between inserts does not advance when changes arrive, or advances past only the first element of a paste; or the neighbour is not found; or elements are stored in runs (blocks of several), and a run is split at a wrong offset. a was inserted at the same place as c concurrently: check also that every replica puts the same one first." + stop(8, "replica 1 applies 0.2", 6)),
+     "When replica 0 inserted [c] (0.2, line 4), it had [b] already, and put [c] before it. That order must hold everywhere, but 1.3 (line 9) shows [c] behind [b]. Look at the message that replica 0 made for that insert, and at where replica 1 placed it in line 8. Often the clock that decides between inserts does not advance when changes arrive. When several elements arrive in one change, it must pass the last one's number. Or the neighbour is not found. Or elements are stored in runs (blocks of several), and a run is split at a wrong offset. a was inserted at the same place as c concurrently: check also that every replica puts the same one first." + stop(8, "replica 1 applies 0.2", 6)),
     ("a receipt that comes before the change is applied", 2, "0 ins a 0 : a|1 recv 0 1|1 read : a|0 ins b 1 : a b|0 del a : b|1 recv 0 3|1 read : a",
      "contents 1.2: this response lacks one element that replica 1 should have had by then, and has one element that should not be there.||"
      "Where to look|"
@@ -480,7 +495,7 @@ WORDS = [
      "by then|it lacks a||The list specifications|for the whole trace: strong and weak fail"),
     ("a delete that meets an insert which did not know it", 2, "0 ins a 0 : a|0 ins b 1 : a b|0 ins c 2 : a b c|1 recv 0 3|1 read : a b c|1 del a : b c|"
      "0 ins d 2 : a b d c|1 recv 0 4|1 read : b c d",
-     "When replica 0 inserted [d] (0.4, line 9), it had [c] already, and put [d] before it. That order must hold everywhere, but 1.3 (line 11) shows [d] behind [c]. Look at the message that replica 0 made for that insert, and at where replica 1 placed it in line 10. Often the clock that decides between inserts does not advance when changes arrive, or advances past only the first element of a paste; or the neighbour is not found; or elements are stored in runs (blocks of several), and a run is split at a wrong offset (the offset must count deleted elements too).|If the editor "
+     "When replica 0 inserted [d] (0.4, line 9), it had [c] already, and put [d] before it. That order must hold everywhere, but 1.3 (line 11) shows [d] behind [c]. Look at the message that replica 0 made for that insert, and at where replica 1 placed it in line 10. Often the clock that decides between inserts does not advance when changes arrive. When several elements arrive in one change, it must pass the last one's number. Or the neighbour is not found. Or elements are stored in runs (blocks of several), and a run is split at a wrong offset (the offset must count deleted elements too).|If the editor "
      "sends positions, the position of d was perhaps not adjusted for the delete of a by 1.2 (line 8), which replica 1 knew and the author of d did not." + stop(10, "replica 1 applies 0.4", 6)),
     ("a delete that becomes nothing beside an insert that its author did not know", 2, "0 ins a 0 : a|1 recv 0 1|1 read : a|0 del a :|"
      "1 ins b 0 : b a|1 recv 0 2|1 read : b a",
@@ -751,7 +766,7 @@ PLACES = [
 # A session whose end `delivered` wrote, in lines 9 to 11: replica 1 never applied 0.2 and 0.3, and shows nothing wrong before.
 UNDELIVERED = "0 ins a 0 : a|1 recv 0 1|1 read : a|0 ins b 1 : a b|0 del a : b|0 read : b|0 read : b|1 recv 0 3|1 read : a"
 UNDELIVERED_WORDS = """Missing
-[b] inserted by 0.2 (line 6). Replica 1 should have had it since line 10 (1 recv 0 3, written by the call `delivered`): 0.3 is a later operation of the same author, so 0.3 must not arrive before it
+[b] inserted by 0.2 (line 6). Replica 1 should have had 0.2 since line 10 (1 recv 0 3, written by the call `delivered`, which says that everything has arrived everywhere): 0.3 is a later operation of the same author, so 0.3 must not arrive before 0.2
 [b] is never deleted
 
 Extra
@@ -992,17 +1007,18 @@ def stops_told(told: str) -> tuple:
     """What the last of some lines says of where elements arrived, as (line, replica, element), and whether it says nothing else: by element, in the order in
     which they came first."""
     last = told.splitlines()[-1].strip()
-    if not re.match(r"\S+ arrived at replica ", last):
+    if not re.match(r"\S+(, \S+)*( and \S+)? arrived (together )?at replica ", last):
         return [], True
-    by = "; " if " and at replica " in last else ", "
-    parts, found = last.split(by), []
-    for place, part in enumerate(parts):
-        name, verb, where = re.fullmatch(r"(\S+)( arrived)? (.*)", part).groups()
-        places = re.findall(r"at replica (\d+) in line (\d+)", where)
+    by, at = "; " if " and at replica " in last else ", ", r"at replica \d+ in line \d+"
+    parts, found = re.findall(rf"(\S.*?)( arrived)?( together)? ({at}(?:, {at})*(?: and {at})?)(?:{by}|$)", last), []
+    if by.join("".join(part[:3]) + " " + part[3] for part in parts) != last or len({part[3] for part in parts}) != len(parts):
+        return [], False
+    for place, (names, verb, together, where) in enumerate(parts):
+        names, places = re.split(", | and ", names), re.findall(r"at replica (\d+) in line (\d+)", where)
         *before, end = [f"at replica {replica} in line {line}" for replica, line in places]
-        if where != " and ".join(filter(None, [", ".join(before), end])) or bool(verb) != (place == 0):
+        if where != " and ".join(filter(None, [", ".join(before), end])) or bool(verb) != (place == 0) or bool(together) != (len(names) > 1):
             return [], False
-        found.append([(int(line), replica, name) for replica, line in places])
+        found += [[(int(line), replica, name) for replica, line in places] for name in names]
     lines = [[line for line, *_ in one] for one in found]
     is_in_order = [one[0] for one in lines] == sorted(one[0] for one in lines) and all(one == sorted(one) for one in lines)
     return sum(found, []), is_in_order and len({one[0][2] for one in found}) == len(found)
@@ -1257,8 +1273,8 @@ def places(tally: Tally, program: str, folder: str) -> None:
     for name, wanted in FOR_TWO.items():
         got = explain(program, ["--language", name, "-"], text_of(2, "0 ins a 0 : a|0 ins b 1 : a b|1 recv 0 1|1 recv 0 2|1 read : a").encode()).out.decode()
         tally.check(f"a debugger: {name}, receipts that stand together", paragraph(got, "In a debugger").endswith(
-            ". It stops when 4 lines have been recorded, and again when 5 have: look at what happens after the second stop. If there is no second one, one call applies what lines 5 and 6 record: "
-            f"look at what happens after the first.\n    {wanted}"), got)
+            ". One call may apply what lines 5 and 6 record. So the code stops before line 5, when 4 lines have been recorded, and again before line 6, if that has a call of its own: look at what happens "
+            f"after the last stop.\n    {wanted}"), got)
     undelivered(tally, program, folder)
     path.write_text(text_of(2, PLACED))
     for beside, wanted in NOTES:
@@ -1305,17 +1321,36 @@ HELD_BACK = "0 ins a 0 : a|1 recv 0 1|1 read : a|1 del a :|0 ins b 1 : a b|0 rec
 
 # Five changes of replica 0, of which these came to replica 1 and 2 by receipts of their own; the last response, replica 2's, lacks one.
 FIVE = "|".join(f"0 ins e{n} {n - 1} : {' '.join(f'e{k}' for k in range(1, n + 1))}" for n in range(1, 6))
+ALSO = "  Look also at whether 0.4 (line 6) was lost on its way to replica 1, or overtaken: no receipt there names it, though all other changes of replica 0 that came there have a receipt. "
 ASTRAY = {
-    "another replica lacks one": ([1, 2, 3, 5], [1, 2, 3, 4, 5], "e1 e2 e3 e4",
-                                  "0.4 (line 6) was lost on its way to replica 1, or overtaken: no receipt there names it, though all other changes of "),
+    "another replica lacks one": ([1, 2, 3, 5], [1, 2, 3, 4, 5], "e1 e2 e3 e4", ALSO),
     "it lacks one itself": ([1, 2, 3, 4, 5], [1, 2, 3, 5], "e1 e2 e3 e5",
                             "0.4 was lost on its way to replica 2: no receipt there names it. If it was not lost but overtaken, "),
     "it lacks two": ([1, 2, 3, 4, 5], [1, 3, 5], "e1 e3 e5", "0.2 (line 4) and 0.4 (line 6) were lost on their way to replica 2, or overtaken: no receipt "
-                     "there names them, though all other changes of replica 0 have one. "),
+                     "there names them, though all other changes of replica 0 that came there have a receipt. "),
     "it lacks one that it shows": ([1, 2, 3, 4, 5], [1, 2, 3, 5], "e1 e2 e3 e4", None),
     "two that travel together": ([1, 2, 3, 5], [1, 2, 3, 5], "e1 e2 e3 e4", None),
     "one receipt for all": ([1, 2, 3, 4, 5], [5], "e1 e2 e3 e4", None),
 }
+
+
+# Sessions in which a change was lost at a replica that has no answer in the verdict: with a change of that replica which came to such an answer, made when something had come
+# there behind the lost one, or with none, or with one that was made before.
+ALL_RECEIVED = "".join(f"|2 recv 0 {n}" for n in range(1, 6))
+LOST_AT_ONE = ("0.4 (line 6) was lost on its way to replica 1, or overtaken: no receipt there names it, though all other changes of replica 0 that came there have a receipt. ")
+NO_PART = "No response above has anything that replica {} made after that. So that loss hardly explains the fault above, but both may come from one bug."
+LISTS_OF_TWO = "0 ins a 0 : a|1 ins b 0 : b|0 ins c 1 : a c|0 ins d 2 : a c d|0 ins e 3 : a c d e|2 recv 0 1|2 recv 0 3|2 recv 0 4|1 recv 0 1|1 recv 0 2|1 recv 0 3|1 recv 0 4|1 read : b a c d e|0 recv 1 1|0 read : a b c d e"
+BEARING = [
+    ("where it was lost something was made that came", 3, f"{FIVE}|2 ins w 0 : w|1 recv 0 1|1 recv 0 2|1 recv 0 3|1 recv 2 1|1 ins z 0 : z w e1 e2 e3|1 recv 0 5{ALL_RECEIVED}|2 recv 1 1|"
+     "2 read : z w e1 e2 e3 e4", "contents 2.2: ", f"Look first at whether {LOST_AT_ONE}Replica 1 made 1.1 (line 13) later, perhaps without it, and 2.2 (line 21) builds on 1.1. In an editor that sends positions, later "
+     "changes then land in the wrong place."),
+    ("where it was lost something was made that did not come", 3, f"{FIVE}|2 ins w 0 : w|1 recv 0 1|1 recv 0 2|1 recv 0 3|1 recv 2 1|1 ins z 0 : z w e1 e2 e3|1 recv 0 5{ALL_RECEIVED}|2 read : w e1 e2 e3 e4",
+     "contents 2.2: ", f"Look also at whether {LOST_AT_ONE}{NO_PART.format(1)}"),
+    ("where it was lost something was made before", 3, f"{FIVE}|1 ins z 0 : z|1 recv 0 1|1 recv 0 2|1 recv 0 3|1 recv 0 5{ALL_RECEIVED}|2 recv 1 1|2 read : z e1 e2 e3 e4",
+     "contents 2.1: ", f"Look also at whether {LOST_AT_ONE}{NO_PART.format(1)}"),
+    ("a third replica than those that show two orders", 3, LISTS_OF_TWO, "refused 2: ", "Look also at whether 0.2 (line 5) was lost on its way to replica 2, or overtaken: no receipt there names it, though all other "
+     f"changes of replica 0 that came there have a receipt. {NO_PART.format(2)}"),
+]
 
 
 def astray(tally: Tally, program: str, folder: str) -> None:
@@ -1325,8 +1360,18 @@ def astray(tally: Tally, program: str, folder: str) -> None:
         receipts = "".join(f"|{replica} recv 0 {n}" for replica, came in ((1, to_one), (2, to_two)) for n in came)
         said = explain(program, ["-"], text_of(3, f"{FIVE}{receipts}|2 read : {shown}").encode()).out.decode()
         first = paragraph(said, "Where to look").splitlines()[0]
+        if wanted == ALSO:
+            tally.check(f"astray: {name}", said.startswith("contents 2.1: ") and "lost on" not in first and "Look first" not in said and
+                        f"\n{ALSO}{NO_PART.format(1)}\n" in said and "and follow" not in said, said)
+            continue
         tally.check(f"astray: {name}", said.startswith("contents 2.1: ") and (first.startswith(f"  Look first at whether {wanted}") if wanted else
                     "lost on" not in said and "No receipt" not in said), said)
+    for name, replicas, entries, begins, wanted in BEARING:
+        said = explain(program, ["-"], text_of(replicas, entries).encode()).out.decode()
+        look = paragraph(said, "Where to look").splitlines()
+        is_first = wanted.startswith("Look first ")
+        place = next((place for place, line in enumerate(look) if line.startswith("  Look ") and "lost on its way" in line), None)
+        tally.check(f"astray: {name}", said.startswith(begins) and place is not None and look[place] == f"  {wanted}" and (place == 0) == is_first and (", and follow 0." in said) == is_first, said)
     path = Path(folder, "held.trace")
     path.write_text(text_of(2, HELD_BACK))
     Path(f"{path}.lines").write_text("12\ndelivered 10 12\n")
@@ -1994,7 +2039,7 @@ def first_told(tally: Tally, program: str, folder: str) -> None:
         tally.check(f"first told: a range whose deletes took what their author {what}", "deleted c along with a and b" in told and (unseen in told) == (not entries), told)
     path.write_text(text_of(3, "0 ins a 0 : a|2 recv 0 1|2 read : a|1 recv 0 1|1 read : a|0 ins b 1 : a b|1 ins c 1 : a c|2 recv 1 2|2 read : a c|0 recv 1 2|0 read : a b c|1 del a : c|2 recv 1 3|2 read : a|"
                                "1 recv 0 2|1 read : c|2 recv 0 2|2 read : a"))
-    sent = "Look first at whether replica 0 has sent 0.2 (line 8) at all: no receipt anywhere names it, but for those that `delivered` wrote."
+    sent = "Look first at whether replica 0 has sent 0.2 (line 8) at all: no receipt anywhere names it, but for those written by the call `delivered`, which says that everything has arrived everywhere."
     for beside, is_told in ("20\ndelivered 17 20\n", True), ("20\n", False):
         Path(f"{path}.lines").write_text(beside)
         told = explain(program, ["--editor", "positions", str(path)]).out.decode()
@@ -2615,7 +2660,7 @@ def kept_more(tally: Tally) -> None:
     tally.check("small: none", smallest(evidence, lambda trace: None) is None)
 
 
-OF_SMALL = "\nIn a debugger\n  These line numbers are of the small trace. In the session itself, stop where the explanation of the whole trace says.\n"
+OF_SMALL = "\nIn a debugger\n  These line numbers, and the code, are for a test that replays the small trace. In the session itself, stop where the explanation of the whole trace says.\n"
 
 
 def together(tally: Tally, program: str, folder: str) -> None:
@@ -2647,7 +2692,7 @@ def weak(tally: Tally, program: str, folder: str) -> None:
     without, got = (explain(program, [*goal, "-"], trace) for goal in ([], ["--weak"]))
     asks, rest = re.subn(rb"  An editor whose server orders .* ask for the weak specification alone \(in the tools by --weak\)\.\n", b"", without.out)[::-1]
     tally.same("weak: it passes, and the explanation follows, but for how to ask for it", (asks, got), (1, Ended(0, ALONE.encode() + rest.replace(
-        b"When it showed", b"When strong came to fail").replace(b"Where to look\n", b"Where to look, should the strong one hold too\n"), b"")))
+        b"When it showed", b"When strong came to fail").replace(b"Where to look\n", b"Where to look, if you need the strong one to hold as well\n"), b"")))
     later = explain(program, ["--weak", "-"], text_of(4, "1 ins x 0 : x|2 recv 1 1|3 recv 1 1|2 ins a 0 : a x|3 ins b 1 : x b|1 del x :|1 recv 2 1|1 recv 3 1|1 read : b a|0 recv 1 3|"
         "0 ins X 2 : b a X|2 recv 0 1|2 ins A 2 : b a A X|3 recv 0 1|3 ins B 3 : b a X B|0 del X : b a|0 recv 2 2|0 recv 3 2|0 read : b a B A").encode()).out.decode()
     tally.check("weak: the first lines in which strong fails", later.startswith(f"weak holds, strong doesn't, with two warnings{ALONE[26:]}refused 3: ") and " Strong holds up to line 10; all below is about lines 1 to 11." in later

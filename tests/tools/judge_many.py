@@ -389,14 +389,14 @@ IN_COMMON = {
         "  a change arrived that was concurrent with one of the receiver's own: this came before the wrong list in all 5; 2 of the 12 that pass have it too"]),
     # Of 48 correct lists 12 come so: one in each failing session, two in each of the four that pass.
     "at one place": ([(4, f"{TIED} b a")], [(4, f"{TIED} a b"), (4, IN_TURN)], [
-        "  an insert arrived at a place where an element stood that the insert's author had not seen: this came just before all 4 wrong lists (100 %) and just before 12 of the 48 correct ones of all these sessions (25 %)",
-        "  a change arrived that was concurrent with one of the receiver's own: this came just before all 4 wrong lists (100 %) and just before 12 of the 48 correct ones of all these sessions (25 %)",
+        "  an insert arrived at a place where an element stood that the insert's author had not seen: this came just before all 4 wrong lists (100 %) and just before 12 of the 48 correct lists of these 12 sessions (25 %)",
+        "  a change arrived that was concurrent with one of the receiver's own: this came just before all 4 wrong lists (100 %) and just before 12 of the 48 correct lists of these 12 sessions (25 %)",
         "  Up to where they fail, 4 of the 4 have no deletes: so the bug does not need these."]),
     "none that pass, and few lists": ([(3, BEGUN_ONCE)], [], []),
     # Of 24 correct lists 8 come so.
     "none that pass": ([(8, f"{TIED} b a")], [], [
-        "  an insert arrived at a place where an element stood that the insert's author had not seen: this came just before all 8 wrong lists (100 %) and just before 8 of the 24 correct ones of all these sessions (33 %)",
-        "  a change arrived that was concurrent with one of the receiver's own: this came just before all 8 wrong lists (100 %) and just before 8 of the 24 correct ones of all these sessions (33 %)",
+        "  an insert arrived at a place where an element stood that the insert's author had not seen: this came just before all 8 wrong lists (100 %) and just before 8 of the 24 correct lists of these 8 sessions (33 %)",
+        "  a change arrived that was concurrent with one of the receiver's own: this came just before all 8 wrong lists (100 %) and just before 8 of the 24 correct lists of these 8 sessions (33 %)",
         "  Up to where they fail, 8 of the 8 have no deletes: so the bug does not need these."]),
     "too few": ([(2, BEGUN_TWICE)], [(10, RIGHT_ONCE)], []),
     "nothing stands out": ([(3, BEGUN_TWICE)], [(9, RIGHT_TWICE)], []),
@@ -405,7 +405,7 @@ IN_COMMON = {
 OF_PLANTED = {
     "tombstone": "an insert arrived whose neighbour was deleted there", "tie": "an insert arrived at a place where an element stood that the insert's author had not seen",
     "clock": "a replica inserted directly behind an element of another replica", "overtaking": "several changes arrived at once",
-    "mapping": "an insert arrived whose author had not seen a delete that the receiver had", "unmoved": "a delete arrived whose author had not seen an insert that the receiver had",
+    "mapping": "an insert arrived that was concurrent with a delete which the receiver had already", "unmoved": "a delete arrived that was concurrent with an insert which the receiver had already",
     "behind": "an insert arrived at a place where an element stood that the insert's author had not seen", "twice": "a delete arrived whose element was deleted there already",
     "none": "", "none_behind_server": "",
 }
@@ -684,7 +684,7 @@ def here_and_elsewhere(tally: Tally, program: str, folder: str, other: str, want
         tally.check(f"{machines}: all traces stay here, and none there", sorted(map(str, Path(folder).rglob("*"))) == before and not left, left)
 
 
-FIRST_FAULT = "fails at {0} ({1}): the first {0} lines fail already, with {1}, and domepeeler-explain begins there; `verdict` and `k` are of the whole trace"
+FIRST_FAULT = "in the column `fails at`, {0} ({1}) says that the first {0} lines fail already, with {1}; domepeeler-explain begins there. `verdict` and `k` are of the whole trace"
 
 
 def fails_at(tally: Tally, program: str, folder: str) -> None:

@@ -1808,7 +1808,7 @@ def check_explains_file(tally: Tally, recorder: Recorder, folder: Path) -> None:
     said = [line[2:] for line in got[len(lost) + 1:-1]]
     tally.check(f"{recorder.language}: explains a file of a session that ends with delivered", told.returncode == 1 and
                 said == told.stdout.splitlines() and "never reached replica 1, though the call `delivered` (line 5) says that everything has arrived." in told.stdout and
-                "arrived at replica 1 in line 5 (1 recv 0 1, written by the call `delivered`)" in told.stdout, (said, told))
+                "arrived at replica 1 in line 5 (1 recv 0 1, written by the call `delivered`, which says that everything has arrived everywhere)" in told.stdout, (said, told))
 
 
 def check_judge(tally: Tally, recorder: Recorder, folder: Path) -> None:

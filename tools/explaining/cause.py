@@ -5,7 +5,7 @@ from itertools import product
 from typing import NamedTuple
 
 from .evidence import Evidence
-from .kinds import POSITIONS
+from .kinds import OF_POSITIONS, POSITIONS
 from .recordings import Receipt
 from .telling import at, counted, listed
 
@@ -13,11 +13,11 @@ ALONE = "weak alone"  # the name of the last cause: that weak holds
 MOST_TOLD = 3  # deletes, or elements, that are told one by one
 MOST_EMPTIED = 3  # deletes that became nothing before the fault: where more did, that alone is not the cause
 MOST_MET = 6  # changes for which a position was perhaps not adjusted
-LOST = ("Look first at whether {changes} {were} lost on {their} way to replica {replica}, or overtaken: no receipt there names {them}, though {others}. "
-        "In an editor that sends positions, later changes then land in the wrong place.")
-NEVER_SENT = ("Look first at whether replica {author} has sent {changes} at all: no receipt anywhere names {them}, but for those that `delivered` wrote. In an editor that sends positions, later changes then land in the "
-              "wrong place.")
-OTHERS_HAVE = "all other changes of replica {author} have one"
+LOST = "Look {when} at whether {changes} {were} lost on {their} way to replica {replica}, or overtaken: no receipt there names {them}, though {others}. "
+NEVER_SENT = "Look {when} at whether replica {author} has sent {changes} at all: no receipt anywhere names {them}, but for those written by the call `delivered`. "
+BEARS = "Replica {replica} made {made} later, perhaps without {them}, and {operation} builds on {name}. "
+BEARS_NOT = "No response above has anything that replica {replica} made after that. So that loss hardly explains the fault above, but both may come from one bug."
+OTHERS_HAVE = "all other changes of replica {author} that came there have a receipt"
 ELSEWHERE_ONE = {True: "at another replica it has one", False: "at other replicas they have some"}
 PUT_AT_ONCE = {True: " {others} was inserted at the same place as {element} concurrently: check also that every replica puts the same one first.",
                False: " Check also these pairs, which were inserted at one place concurrently: {pairs}. Of each pair every replica must put the same one first."}
@@ -51,14 +51,28 @@ def astray(evidence: Evidence) -> list:
 
 
 def lost(evidence: Evidence) -> list:
+    """Of changes that may have been lost, those at one replica, which what the verdict is about hangs on."""
     found = astray(evidence)
+    return lost_there(evidence, found) if found and evidence.bears(*found[0]) else []
+
+
+def lost_apart(evidence: Evidence) -> list:
+    """Where what may have been lost was lost at a replica that has no part in the verdict: to be looked at last."""
+    found = astray(evidence)
+    return lost_there(evidence, found) if found and not evidence.bears(*found[0]) else []
+
+
+def lost_there(evidence: Evidence, found: list) -> list:
     changes = [change for change, replica in found if (change.replica, replica) == (found[0][0].replica, found[0][1])]
     is_one, recording = len(changes) == 1, evidence.recording
     for change, replica in found[:1]:
         others = [other for other in range(recording.replicas) if other != change.replica]
         is_sent = any(one.key in recording.lines_named(other) for one in changes for other in others) or not any(recording.own_receipt(one, other) for one in changes for other in others)
-        return [Cause("lost", (LOST if is_sent else NEVER_SENT).format(
-            replica=replica, author=change.replica, their="its" if is_one else "their", them="it" if is_one else "them", **changes_told(changes),
+        is_there, made = evidence.bears(change, replica), evidence.made_since(change, replica)
+        last = BEARS_NOT if not is_there else OF_POSITIONS if made is None else BEARS + OF_POSITIONS
+        return [Cause("lost", ((LOST if is_sent else NEVER_SENT) + last).format(
+            replica=replica, author=change.replica, their="its" if is_one else "their", them="it" if is_one else "them", when="first" if is_there else "also", **changes_told(changes),
+            made=made and at(made), name=made and made.name, operation=made and at(next(operation for operation in evidence.operations if operation.has_seen(made))),
             others=OTHERS_HAVE.format(author=change.replica) if recording.are_named(change.replica, changes, replica) else ELSEWHERE_ONE[is_one]))]
     return []
 

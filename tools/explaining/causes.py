@@ -3,7 +3,7 @@
 Each cause has a name of its own, by which failures that look alike are put together."""
 from __future__ import annotations
 
-from .cause import Cause
+from .cause import Cause, lost_apart
 from .causes_of_contents import of_contents
 from .causes_of_order import of_position, of_refusal
 from .evidence import Evidence
@@ -17,6 +17,6 @@ SAME_ID = ("If that name is the editor's own id, the editor made it twice: look 
 
 def causes_of(evidence: Evidence, weak: bool = False) -> list:
     """The causes; with `weak` of an editor that promises the weak list specification alone, as those do that send positions."""
-    find = {"contents": of_contents, "position": of_position, "refused": lambda told: of_refusal(told, weak), "doubled": lambda _: [Cause("doubled", DOUBLED), Cause("same id", SAME_ID)],
+    find = {"contents": of_contents, "position": of_position, "refused": lambda told: [*of_refusal(told, weak), *lost_apart(told)], "doubled": lambda _: [Cause("doubled", DOUBLED), Cause("same id", SAME_ID)],
             "accepted": lambda _: []}
     return fitting(find[evidence.report["verdict"]](evidence), evidence.kind)

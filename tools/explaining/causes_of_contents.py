@@ -1,7 +1,7 @@
 """Where to look in the editor where a response holds other elements than it should, the likeliest cause first."""
 from __future__ import annotations
 
-from .cause import BY_ITSELF, MOST_TOLD, OWN_ADJUSTED, Cause, astray, at_once, changes_told, deleted_twice, emptied, is_agreed, is_deleted, lost, may_be_server, named, on_way_then, otherwise, shown_in_orders
+from .cause import BY_ITSELF, MOST_TOLD, OWN_ADJUSTED, Cause, astray, at_once, changes_told, deleted_twice, emptied, is_agreed, is_deleted, lost, lost_apart, may_be_server, named, on_way_then, otherwise, shown_in_orders
 from .evidence import Evidence
 from .kinds import IDENTIFIERS, POSITIONS, is_possible
 from .positions import met, met_before, neighbours, not_behind, put_there_at_once
@@ -140,11 +140,12 @@ def of_contents(evidence: Evidence) -> list:
     unknown = [name for name in evidence.surplus if name not in evidence.recording.inserts]
     itself = vanished(evidence) if not found and not unknown else []
     if itself:
-        return itself
+        return [*itself, *lost_apart(evidence)]
     found = first_alone(found)
     found[1:1] = emptied(evidence)
     found += healed(evidence)
     found += replaced(evidence) if not found else []
+    found += lost_apart(evidence)
     if unknown:
         found = [Cause("unknown", UNKNOWN.format(names=listed(unknown, MOST_TOLD))), *found]
     these = "If none of these is the cause" if found[1:] else "If that is not the cause"

@@ -10,12 +10,12 @@ from .positions import are_put_at_once, elements_before, is_known, list_of, met_
 from .recordings import Operation, Receipt, place_asked
 from .telling import at, counted, joined, listed, marked
 
-NUMBERS_OF_INSERTS = (" Often the clock that decides between inserts does not advance when changes arrive, or advances past only the first element of a paste; or the neighbour is not found; or "
-                      "elements are stored in runs (blocks of several), and a run is split at a wrong offset{deleted}.")
+NUMBERS_OF_INSERTS = (" Often the clock that decides between inserts does not advance when changes arrive. When several elements arrive in one change, it must pass the last one's number. Or the "
+                      "neighbour is not found. Or elements are stored in runs (blocks of several), and a run is split at a wrong offset{deleted}.")
 OF_INSERTS = {
     "": NUMBERS_OF_INSERTS, NEIGHBOURS: NUMBERS_OF_INSERTS, POSITIONS: " Client and server must adjust in the same way, and each change only once.", IDENTIFIERS: "",
-    TREE: " Often the clock that decides between children does not advance when changes arrive, or advances past only the first element of a paste; or the parent is not the one that the "
-          "author meant{deleted}.",
+    TREE: " Often the clock that decides between children does not advance when changes arrive. When several elements arrive in one change, it must pass the last one's number. Or the parent is not "
+          "the one that the author meant{deleted}.",
 }
 DELETED_TOO = {"": " (the offset must count deleted elements too)", NEIGHBOURS: " (the offset must count deleted elements too)", TREE: ", as where the element beside it is deleted", IDENTIFIERS: "", POSITIONS: ""}
 IDENTIFIERS_OF = ("If the list is sorted by position identifiers, print those of {names} at line {line}. They must rise in this order. If they do not, look at how the identifier of {element} was "
@@ -74,14 +74,17 @@ SETTLED_BY = {
 HIDDEN_ORDER = ("[{new}] was put directly {side} {hidden} ({insert}), and {hidden} and [{old}] were inserted{place} without knowing of each other. {hidden} is deleted at replica {replica}, which "
                 "never showed {hidden} and [{old}] together: perhaps it still keeps {hidden}, but on the other side of [{old}] than replica {author} has it. Then [{new}], put rightly beside {hidden}, stands there "
                 "too. So look first at where these concurrent inserts were put when they arrived: {arrivals}.")
-PAST = ("If inserts find their place by a neighbour, look at how [{other}] found its place{there}: a search that goes past [{behind}] must also go past all that was put behind [{behind}]; in a "
+PAST = ("If inserts find their place by a neighbour, look at how {found}{when}: a search that goes past [{behind}] must also go past all that was put behind [{behind}]; in a "
         "list that is kept in blocks it must not stop at a block's end.")
+BEGUN = ("If inserts find their place by a neighbour, look at how [{element}] found its place{when}. Its search begins behind [{behind}]: should it have stopped before [{other}], which was not put "
+         "behind [{behind}]?")
+WHEN_CAME = " when {it} came to replica {replica} in line {line}"
 INSIDE = ("{operation} shows [{new}] between [{left}] and [{right}], though [{one}] was put directly {side} [{beside}] by {insert}, which did not know of it. In a tree an element stands beside a "
           "sibling and all that hangs on that: look at how the place before or behind a sibling is found, by the first or last of all that hangs on it, and only then at the order of "
           "siblings.")
 BETWEEN = "[{element}] was put directly behind [{behind}]. The author of [{other}] knew neither, and {operation} shows [{other}] between the two. "
-BEHIND_UNKNOWN = "[{element}] was put directly behind [{behind}], which the author of [{other}] did not know. "
-BEHIND_DELETED = " Look also at inserts beside deleted elements: where [{behind}] was thrown away as deleted, nothing says where [{element}] belongs."
+BEHIND_UNKNOWN = "[{element}] was put directly behind [{behind}]. The author of [{other}] did not know [{behind}]. "
+BEHIND_DELETED = " Look also at inserts beside deleted elements: a replica that has thrown away [{behind}] when it was deleted can't know where [{element}] belongs."
 CONCURRENT = ("Look at the order of concurrent inserts: {first} and {then} were inserted{place} without knowing of each other, and were shown "
               "in two different orders.{rule}{print}")
 RULE = (" Use a rule that gives the same order everywhere (such as the replicas' numbers), never the order of arrival. A shortcut, such as for appending, must use this rule too.")
@@ -132,7 +135,7 @@ TURNED_BY_ITSELF = ("Replica {replica} shows {two} before {one} in {before}, and
 AMONG_THESE = "Of the changes of replica {replica}, look first at the deletes: "
 MOVED_INSERT = ("If the editor sends positions, {begin}the position of {element} was perhaps not adjusted for {changes}, which replica {replica} "
                 "knew and the author of {element} did not.{back}")
-MOVED_BACK = {True: " Or perhaps {delete}, still on its way, was not adjusted for {inserts}, which came to replica {replica} meanwhile.",
+MOVED_BACK = {True: " Or perhaps replica {replica}'s own change {delete} was not adjusted for {inserts}, whose {authors} did not have {delete} yet.",
               False: " Or perhaps, when {delete} came to replica {replica} in line {line}, its position was not adjusted for {inserts}."}
 
 
@@ -272,7 +275,15 @@ def came_between(evidence: Evidence) -> list:
     if evidence.between is None:
         return []
     other, element, behind, operation = evidence.between
-    return [Cause("between", BETWEEN.format(operation=at(operation), other=other, element=element, behind=behind) + PAST.format(other=other, behind=behind, there=" there"))]
+    return [Cause("between", BETWEEN.format(operation=at(operation), other=other, element=element, behind=behind) + search_of(evidence, other, element, behind, operation.replica))]
+
+
+def search_of(evidence: Evidence, other: str, element: str, behind: str, replica: int) -> str:
+    """At the search for whose place to look, where an element was put behind one that another's author did not know: of the one that came last to this replica."""
+    names, receipt = evidence.came_last([other, element], replica)
+    when = WHEN_CAME.format(it="they" if names[1:] else "it", replica=replica, line=receipt.line) if receipt is not None else ""
+    found = f"[{other}] and [{element}] found their places" if names[1:] else f"[{other}] found its place"
+    return (BEGUN if names == [element] else PAST).format(other=other, element=element, behind=behind, found=found, when=when)
 
 
 def behind_unknown(evidence: Evidence, first: Operation, then: Operation) -> tuple:
@@ -282,7 +293,9 @@ def behind_unknown(evidence: Evidence, first: Operation, then: Operation) -> tup
         behind = neighbours(one)[0]
         if behind in evidence.recording.inserts and not other.has_seen(evidence.recording.inserts[behind][0]):
             is_gone = any(arrival.insert is one and behind in [delete.element for delete in deletes] for arrival, deletes in evidence.lost_neighbours)
-            told = BEHIND_UNKNOWN.format(element=one.element, behind=behind, other=other.element) + PAST.format(other=other.element, behind=behind, there="")
+            replicas = dict.fromkeys(operation.replica for operation in evidence.operations)
+            replica = next((replica for replica in replicas if other.element in evidence.came_last([other.element, one.element], replica)[0]), evidence.operations[0].replica)
+            told = BEHIND_UNKNOWN.format(element=one.element, behind=behind, other=other.element) + search_of(evidence, other.element, one.element, behind, replica)
             told += BEHIND_DELETED.format(element=one.element, behind=behind) * (is_deleted(evidence, behind) and not is_gone)
             return [Cause("behind unknown", told)], is_gone
     return [], False
@@ -608,6 +621,7 @@ def moved_over(evidence: Evidence) -> dict:
     replica = arrival.receipt.replica
     came = [(delete, arrival.receipt if delete.replica == replica else evidence.recording.arrival(delete, replica)) for delete in unknown]
     met = [(delete, receipt, met_inserts(evidence.recording, delete, Arrival(receipt, arrival.insert))) for delete, receipt in came]
-    back = "".join(MOVED_BACK[delete.replica == replica].format(delete=delete.name, replica=replica, line=receipt.line, inserts=named(inserts))
+    back = "".join(MOVED_BACK[delete.replica == replica].format(delete=delete.name, replica=replica, line=receipt.line, inserts=named(inserts),
+                                                                          authors="authors" if len({insert.replica for insert in inserts}) > 1 else "author")
                    for delete, receipt, inserts in [one for one in met if one[2]][:1])
     return {"element": arrival.insert.element, "changes": named(unknown), "replica": arrival.receipt.replica, "back": back}

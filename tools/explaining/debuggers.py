@@ -111,10 +111,7 @@ def came_between(evidence: Evidence) -> Receipt | None:
     if evidence.between is None:
         return None
     *names, _, operation = evidence.between
-    inserts = [evidence.recording.inserts[name][0] for name in names]
-    came = [evidence.recording.arrival(insert, operation.replica) for insert in inserts if insert.replica != operation.replica]
-    last = max(filter(None, came), key=lambda receipt: receipt.line, default=None)
-    return None if last is None or evidence.recording.is_delivered(last.line) else last
+    return evidence.came_last(names, operation.replica)[1]
 
 
 def told(evidence: Evidence, entry: Operation | Receipt, others: list) -> str:
@@ -145,8 +142,8 @@ def statement(recording: Recording, entry: Operation | Receipt, language: str) -
     then, asked = f"It stops when {entry.line - 1} lines have been recorded.", words.format(entry.line - 1)
     if first < entry.line:
         together = f"lines {first} and {entry.line}" if first + 1 == entry.line else f"several of lines {first} to {entry.line}"
-        then = (f"It stops when {first - 1} lines have been recorded, and again when {entry.line - 1} have: look at what happens after the second stop. If there is no second one, one call applies "
-                f"what {together} record: look at what happens after the first.")
+        then = (f"One call may apply what {together} record. So the code stops before line {first}, when {first - 1} lines have been recorded, and again before line {entry.line}, if that has a call of "
+                "its own: look at what happens after the last stop.")
         asked = FOR_TWO[language].format(first - 1, entry.line - 1)
     return [f"In {name}, put this code {READS if is_read else BEGINS}. {then}", f"  {asked}"]
 

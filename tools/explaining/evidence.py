@@ -3,6 +3,7 @@
 The verdict is the program's. What is computed here must agree with it; where it doesn't, Unexplained says so."""
 from __future__ import annotations
 
+from bisect import bisect_right
 from collections import Counter
 from collections.abc import Iterator
 from functools import cached_property
@@ -15,6 +16,7 @@ ENOUGH_REPLICAS = 3  # that show two elements, so that one which shows them othe
 MOST_LOOKED_AT = 20  # responses of an author before its insert
 ENOUGH_FINE = 3  # inserts beside deleted elements that went well
 MOST_ASTRAY = 20  # changes that may have been lost that are looked at
+MOST_SINCE = 20  # receipts behind such a change that are looked at
 MOST_ARRIVED = 6  # receipts that are told one by one
 SEVERAL = 3  # changes of an author, each with a receipt of its own, so that one without is noticed
 MOST_ELEMENTS = 4  # of a fault of contents, on each side, that are followed through the trace
@@ -46,7 +48,7 @@ class Evidence:
     def __init__(self, recording: Recording, report: dict, lines: int = 0, kind: str = ""):
         self.recording, self.report, self.kind = recording, report, kind
         self.last_line = lines or len(recording.lines)
-        self.operations, self.elements, self.marks, self.lines, self._before = [], [], {}, set(), {}
+        self.operations, self.elements, self.marks, self.lines, self._before, self._last_made = [], [], {}, set(), {}, {}
         self.missing, self.surplus, self.repeated = [], [], []
         gather = {"accepted": self._accepted, "refused": self._refused, "doubled": self._doubled,
                   "contents": self._contents, "position": self._position}
@@ -358,6 +360,15 @@ class Evidence:
                 if not (late.has_seen(insert) or insert.has_seen(late) or late.has_seen(passed)):
                     yield other, name, behind
 
+    def came_last(self, names: list, replica: int) -> tuple:
+        """Of elements whose authors did not know of each other's, those that came last to a replica, and the receipt that brought them. Where `delivered` alone says when one came, no receipt, and
+        all that came."""
+        came = [(self.recording.arrival(insert, replica), insert.element) for insert in (self.recording.inserts[name][0] for name in names) if insert.replica != replica]
+        last = max((receipt.line for receipt, _ in came if receipt is not None), default=0)
+        if any(receipt is None or self.recording.is_delivered(receipt.line) for receipt, _ in came):
+            return [name for _, name in came], None
+        return [name for receipt, name in came if receipt.line == last], next((receipt for receipt, _ in came if receipt.line == last), None)
+
     @property
     def steps_between(self) -> int:
         """How many steps of a long cycle are not told."""
@@ -581,7 +592,8 @@ class Evidence:
         """Changes of which a replica has no receipt of its own, though others have one there or these have one elsewhere; and that replica. They may
         have been lost on their way, since the responses there are as if they had not been applied. First stand those that had come by the verdict's
         line, with something later, then those of which nothing says that they were to come later; and of each first those at the verdict's replicas,
-        then at the authors of the changes that it is about, then at the others, of which what they sent may have gone astray for it."""
+        then at the authors of the changes that it is about, then at the others, of which what they sent may have gone astray for it. Last stand those at replicas
+        that have no part in it."""
         last = max(operation.line for operation in self.operations)
         about = [change.replica for name in self.elements for changes in (self.recording.inserts, self.recording.deletes)
                  for change in changes.get(name, []) if change.line <= last]
@@ -590,7 +602,30 @@ class Evidence:
                  if change.line < last and self.recording.may_travel_alone(change, replica) and self.may_be_lost(change, replica)]
         had_come = [pair for pair in found if self.recording.arrival(*pair).line <= last]
         others = [pair for pair in found if pair not in had_come][:MOST_ASTRAY]
-        return had_come + [pair for pair in others if not self.recording.is_due_later(*pair, last)]
+        found = had_come + [pair for pair in others if not self.recording.is_due_later(*pair, last)]
+        return sorted(found, key=lambda pair: not self.bears(*pair))
+
+    def bears(self, change: Operation, replica: int) -> bool:
+        """Whether the verdict is about what a replica answered, or about something that is known to hang on what it made after a change should have come there."""
+        return replica in self._answering or self.made_since(change, replica) is not None
+
+    def made_since(self, change: Operation, replica: int) -> Operation | None:
+        """Of a replica of which the verdict names no answer, the last change that one of the named operations has, where the replica made it when it had received something that the author
+        of another change, which did not come, had not seen: that other change may have been due before it."""
+        if replica in self._answering:
+            return None
+        if replica not in self._last_made:
+            known = self.recording.streams[replica][:max(operation.clock[replica] for operation in self.operations)]
+            self._last_made[replica] = next((one for one in reversed(known) if one.element), None), [receipt.line for receipt in self.recording.receipts[replica]]
+        made, lines = self._last_made[replica]
+        first = bisect_right(lines, change.line)
+        came = self.recording.receipts[replica][first:first + MOST_SINCE] if made is not None and made.line > change.line else []
+        return made if any(receipt.line < made.line and not change.has_seen(receipt.seen) for receipt in came) else None
+
+    @cached_property
+    def _answering(self) -> set:
+        """The replicas whose answers the verdict names."""
+        return {operation.replica for operation in self.operations}
 
     def may_be_lost(self, change: Operation, replica: int) -> bool:
         """Whether the responses there show that a change was not applied; or don't show it, where no receipt stands for several changes."""

@@ -34,7 +34,7 @@ STATUSES = ("It ends with the program's status: 0 accepted, 1 any other verdict,
 NOT_JUDGED = "nothing was judged, since line {line} of the trace can't be read"
 CALLED = f"{GUIDE.with_name('formats.md')} calls this fault `{{cause}}`"
 WHAT = {"ins": "an insert", "del": "a delete", "read": "a read", "view": "a view"}
-OF_SMALL = "These line numbers are of the small trace. In the session itself, stop where the explanation of the whole trace says."
+OF_SMALL = "These line numbers, and the code, are for a test that replays the small trace. In the session itself, stop where the explanation of the whole trace says."
 
 
 def words_asked() -> argparse.Namespace:

@@ -23,13 +23,13 @@ IN_WORDS = {
     SEVERAL_OWN: "a change arrived that was concurrent with several of the receiver's own",
     ONE_PLACE: "an insert arrived at a place where an element stood that the insert's author had not seen",
     BESIDE: "an insert arrived whose neighbour was deleted there",
-    NAMES_GONE: "a change arrived that deletes, or stands beside, an element which was deleted there",
+    NAMES_GONE: "a change arrived that deletes an element already deleted at the receiver, or inserts beside one",
     TOGETHER: "several changes arrived at once",
     AFTER_SEVERAL: "a change arrived whose author had received several messages since its own last change (if it acknowledges these: is just that taken out of the queue?)",
-    UNSEEN["ins", "ins"]: "an insert arrived whose author had not seen an insert that the receiver had",
-    UNSEEN["ins", "del"]: "an insert arrived whose author had not seen a delete that the receiver had",
-    UNSEEN["del", "ins"]: "a delete arrived whose author had not seen an insert that the receiver had",
-    UNSEEN["del", "del"]: "a delete arrived whose author had not seen a delete that the receiver had",
+    UNSEEN["ins", "ins"]: "an insert arrived that was concurrent with an insert which the receiver had already",
+    UNSEEN["ins", "del"]: "an insert arrived that was concurrent with a delete which the receiver had already",
+    UNSEEN["del", "ins"]: "a delete arrived that was concurrent with an insert which the receiver had already",
+    UNSEEN["del", "del"]: "a delete arrived that was concurrent with a delete which the receiver had already",
     OWN_BESIDE: "a replica inserted where an element had been deleted",
     TYPED_ON: "a replica inserted directly behind its own last insert",
     BEFORE_OTHERS: "a replica inserted directly before an element of another replica",
@@ -209,7 +209,7 @@ def standing_out(failing: list, passing: list) -> list:
             found.append(Telling(weight(count / len(failing), others, len(passing)), name, count, False, f"; {others or 'none'} of the {len(passing)} that pass {'have' if others > 1 else 'has'} it{' too' if others else ''}"))
         count, others = sum(name in session.last for session in failing), sum(name in one for one in lists)
         if len(lists) >= FEWEST_LISTS and count >= MANY_LISTS * len(failing):
-            right = f" and just before {others} of the {len(lists)} correct ones of all these sessions ({round(100 * others / len(lists))} %)"
+            right = f" and just before {others} of the {len(lists)} correct lists of these {len(failing) + len(passing)} sessions ({round(100 * others / len(lists))} %)"
             found.append(Telling(weight(count / len(failing), others, len(lists)), name, count, True, right))
     least = max(TELLING, -log(BY_CHANCE) / len(failing))
     general = set().union(*GENERAL.values())

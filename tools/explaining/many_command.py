@@ -148,7 +148,7 @@ def together(rows: list) -> list:
     return [(same[0], len(same) - 1) for same in found.values()]
 
 
-FIRST_FAULT = "fails at {0} ({1}): the first {0} lines fail already, with {1}, and domepeeler-explain begins there; `verdict` and `k` are of the whole trace"
+FIRST_FAULT = "in the column `fails at`, {0} ({1}) says that the first {0} lines fail already, with {1}; domepeeler-explain begins there. `verdict` and `k` are of the whole trace"
 
 
 def fails_at(row: Row) -> str:

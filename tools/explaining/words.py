@@ -18,9 +18,11 @@ from .telling import FIRST_STEPS, at, counted, did, joined, listed, marked
 CODE, LOG, NOTED = "In your code", "In your log", "Your notes"  # titles: places of code or of a log; the user's words
 HIDDEN = "What this verdict may hide"  # the title of the section of warnings, the first one
 WHERE = "Where to look"  # that of the likely causes
-WHERE_OF_STRONG = "Where to look, should the strong one hold too"  # where weak alone is asked for
+WHERE_OF_STRONG = "Where to look, if you need the strong one to hold as well"  # where weak alone is asked for
 REFUSED_FIRST = "Look first at the call that was refused (see above): what it was to record is not in the trace."
 AROUND = "a circle, which no order allows"
+DELIVERED = "the call `delivered`"
+SAYS_ALL = ", which says that everything has arrived everywhere"  # where the call is named first
 LINE = re.compile(r"\bline (\d+)(?=[,):]| of the trace,| \(\d+ recv )")  # of the trace, in words; and not two names, `line` and a number
 
 
@@ -55,9 +57,21 @@ def explanation(evidence: Evidence, told: Evidence, language: str = debuggers.US
             f" Strong holds up to line {told.last_line - 1}; all below is about lines 1 to {told.last_line}{'' if is_alike else f'; the whole trace is {verdict_of(evidence.report)}'}.")
     if passes:
         headline = f"{WEAK_ALONE}: this passes, since only the weak list specification is asked for. Nothing needs mending. Why the strong one fails: {headline}"
-    return Explanation(headline, [*when_it_went_wrong(evidence, told, weak), *without_receipts(told), *sections, *where,
-                                  *in_a_debugger(told, language, causes), *([] if is_alike else whole), specifications(evidence.report, bool(whole))],
-                       tuple(cause.name for cause in causes))
+    sections = with_delivered([*when_it_went_wrong(evidence, told, weak), *without_receipts(told), *sections, *where,
+                               *in_a_debugger(told, language, causes), *([] if is_alike else whole), specifications(evidence.report, bool(whole))])
+    return Explanation(headline, sections, tuple(cause.name for cause in causes))
+
+
+def with_delivered(sections: list) -> list:
+    """The sections, with what the call `delivered` says where it is named first; but where that is said there already."""
+    for place, section in enumerate(sections):
+        for number, line in enumerate(section.lines):
+            before, named, behind = line.partition(DELIVERED)
+            if named:
+                said = "" if behind.startswith(" (") else SAYS_ALL
+                lines = [*section.lines[:number], f"{before}{named}{said}{behind}", *section.lines[number + 1:]]
+                return [*sections[:place], section._replace(lines=lines), *sections[place + 1:]]
+    return sections
 
 
 def of_whole(evidence: Evidence, told: Evidence) -> list:
@@ -226,7 +240,8 @@ def two_orders(operations: list, elements: list) -> str:
     for one, two in (before, behind), (behind, before):
         where = [str(operation.replica) for operation, place in zip(operations, places) if place[one] < place[two]]
         told.append(f"{one} before {two} at replica{'s' if where[1:] else ''} {joined(where)}")
-    return ", ".join(told)
+    others = [name for name in (before, behind) if name not in elements]
+    return ", ".join(told) + (f" ({joined(others)} {'are' if others[1:] else 'is'} not in the circle below)" if others else "")
 
 
 def life(recording: Recording, name: str) -> str:
@@ -291,11 +306,13 @@ def beside(insert: Operation, names: list) -> str:
 
 def where_arrived(evidence: Evidence) -> list:
     """The moments at which the order may have gone wrong, which a response shows only later: where elements of others arrived."""
-    places = {}
+    places, alike = {}, {}
     for receipt, insert in evidence.arrivals:
         places.setdefault(insert.element, []).append(f"at replica {receipt.replica} in line {receipt.line}")
-    told = [f"{element}{' arrived' * (place == 0)} {joined(where)}" for place, (element, where) in enumerate(places.items())]
-    return [("; " if any(where[1:] for where in places.values()) else ", ").join(told)] if told else []
+    for element, where in places.items():
+        alike.setdefault(tuple(where), []).append(element)
+    told = [f"{joined(names)}{' arrived' * (place == 0)}{' together' * (len(names) > 1)} {joined(list(where))}" for place, (where, names) in enumerate(alike.items())]
+    return [("; " if any(where[1:] for where in alike) else ", ").join(told)] if told else []
 
 
 def doubled(evidence: Evidence) -> tuple:
@@ -394,7 +411,7 @@ def overtaken(evidence: Evidence, change: Operation, operation: Operation) -> li
     if own is not None:
         had = "" if own.seen.replica == brought.seen.replica else f", whose author already had {change.name},"
         if own.seen is change:
-            return [f"{change.name}'s own receipt comes only in line {own.line} ({own.text}). {brought.seen.name}{had} overtook it in line "
+            return [f"the receipt of {change.name} itself comes only in line {own.line} ({own.text}). {brought.seen.name}{had} overtook it in line "
                     f"{brought.line}: that is not causal order"]
         return [f"no receipt at replica {replica} names {change.name}; the next from its author is line {own.line} ({own.text}). {change.name} was "
                 f"lost, or {brought.seen.name}{had} overtook it in line {brought.line}"]
@@ -415,12 +432,15 @@ def neighbours(evidence: Evidence, insert: Operation) -> list:
     gone = next((deletes for other, deletes in evidence.lost_neighbours if other is arrival), [])
     if evidence.recording.is_delivered(receipt.line) and not gone:
         return []
-    if not gone:
-        was = "was still there" if len(names) == 1 else "were still there"
-        return [f"was put {beside(insert, names)}. When it arrived at replica {receipt.replica} in line {receipt.line}, {joined(names)} {was}"]
+    put, were = f"was put {beside(insert, names)}.", f"{joined(names)} {'was' if len(names) == 1 else 'were'} still there"
     if evidence.recording.is_delivered(receipt.line):
-        return [f"was put {beside(insert, names)}. By line {receipt.line}, {gone_there(gone)}"]
-    return [f"was put {beside(insert, names)}. {when_arrived(receipt, gone)}"]
+        return [f"{put} By line {receipt.line}, {gone_there(gone)}"]
+    if receipt.seen is insert:
+        return [f"{put} {when_arrived(receipt, gone) if gone else f'When it arrived at replica {receipt.replica} in line {receipt.line}, {were}'}"]
+    due = f"{put} It should have arrived at replica {receipt.replica} by line {receipt.line}"
+    had = evidence.recording.clock_before(receipt)
+    are_there = all(had[one.replica] >= one.n for name in names for one in evidence.recording.inserts.get(name, [])[:1])  # else they came with it
+    return [f"{due}, and by then {gone_there(gone)}"] if gone else [f"{due}, and until then {were}"] if are_there else []
 
 
 def arrived(recording: Recording, seen: Operation, operation: Operation) -> str:
@@ -437,15 +457,15 @@ def arrived(recording: Recording, seen: Operation, operation: Operation) -> str:
 
 def how_arrived(recording: Recording, receipt: Receipt, seen: Operation) -> str:
     """That an operation arrived by a receipt of its own, or should have with what another one names, for a sentence on it."""
-    where = f"line {receipt.line} ({receipt.text}{', written by the call `delivered`' * recording.is_delivered(receipt.line)})"
+    where = f"line {receipt.line} ({receipt.text}{f', written by {DELIVERED}' * recording.is_delivered(receipt.line)})"
     if receipt.seen is seen:
         return f", which arrived at replica {receipt.replica} in {where}"
-    return f". Replica {receipt.replica} should have had it since {where}: {why_after(receipt.seen, seen)}, so {receipt.seen.name} must not arrive before it"
+    return f". Replica {receipt.replica} should have had {seen.name} since {where}: {why_after(receipt.seen, seen)}, so {receipt.seen.name} must not arrive before {seen.name}"
 
 
 def why_after(later: Operation, seen: Operation) -> str:
     """Why an operation can't arrive without one before it."""
-    return f"{later.name} is a later operation of the same author" if later.replica == seen.replica else f"the author of {later.name} had it"
+    return f"{later.name} is a later operation of the same author" if later.replica == seen.replica else f"the author of {later.name} had {seen.name}"
 
 
 def not_arrived(recording: Recording, seen: Operation, operation: Operation) -> str:
