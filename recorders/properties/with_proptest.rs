@@ -4,7 +4,8 @@
 //! For an editor whose server orders all changes, ask in `check` for `verdict.is_weak()`, and for `recording.warnings()`.
 //!
 //! To stop a debugger in the call that answered wrong, run the steps that failed alone, with `Recording::new(REPLICAS)?.stop()?` in
-//! `Group::new`: it starts the program at each call.
+//! `Group::new`: it starts the program at each call. By libdomepeeler each verdict takes microseconds: copy domepeeler_native.rs too, and let
+//! `Group::new` begin with `domepeeler::judge_here(domepeeler_native::verdict)`.
 //!
 //! The second test fails, and is meant to: it shows what a failure looks like, and leaves the recording in failed.trace.
 //! There an operation may arrive before what its author had seen, which this list doesn't bear.
