@@ -437,10 +437,10 @@ def neighbours(evidence: Evidence, insert: Operation) -> list:
         return [f"{put} By line {receipt.line}, {gone_there(gone)}"]
     if receipt.seen is insert:
         return [f"{put} {when_arrived(receipt, gone) if gone else f'When it arrived at replica {receipt.replica} in line {receipt.line}, {were}'}"]
-    due = f"{put} It should have arrived at replica {receipt.replica} by line {receipt.line}"
+    due = f"{put} Replica {receipt.replica} should have had this element by line {receipt.line}"
     had = evidence.recording.clock_before(receipt)
     are_there = all(had[one.replica] >= one.n for name in names for one in evidence.recording.inserts.get(name, [])[:1])  # else they came with it
-    return [f"{due}, and by then {gone_there(gone)}"] if gone else [f"{due}, and until then {were}"] if are_there else []
+    return [f"{due}, and by then {gone_there(gone)}"] if gone else [f"{due}. Until then {were}, so no deleted neighbour explains this"] if are_there else []
 
 
 def arrived(recording: Recording, seen: Operation, operation: Operation) -> str:
