@@ -65,9 +65,8 @@ def stop(line: int, doing: str, *others: int, together: int = 0) -> str:
     where = "right before the call that reads the list" if "reads the list" in doing else "right before the call that makes the editor apply a change, local or remote"
     stops = f"It stops when {line - 1} lines have been recorded."
     if together:
-        both = f"lines {together} and {line}" if together + 1 == line else f"several of lines {together} to {line}"
-        stops = (f"It stops when {together - 1} lines have been recorded, and once more when {line - 1} have, if a call of your editor begins there (one may apply what {both} record). "
-                 "Look at what happens after the last stop.")
+        one = f"lines {together} and {line} together, it stops" if together + 1 == line else f"all of lines {together} to {line}, it may stop"
+        stops = f"It stops when {together - 1} lines have been recorded. Unless one call of your editor applies {one} again at {line - 1}. Look at what happens after the last stop."
     asked = f"if recording.lines() in ({together - 1}, {line - 1}): breakpoint()" if together else asked
     where += f". {stops}"
     return f"|In a debugger|stop before line {line} of the trace, where {doing}.|In Python, put this code {where}|{asked}"
@@ -120,7 +119,7 @@ WORDS = [
      "1 del a : b c z|0 ins p 1 : a p b c z|1 recv 0 5|1 read : p b c z|1 del b : p c z|0 ins q 3 : a p b q c z|1 recv 0 6|1 read : p q c z|1 del c : p q z|"
      "0 ins r 5 : a p b q c r z|1 recv 0 7|1 read : p q r z|1 del r : p q z|0 ins s 6 : a p b q c r s z|1 recv 0 8|1 read : p q z s",
      "Where to look|When replica 0 inserted [s] (0.8, line 22), it had [z] already, and put [s] before it. That order must hold everywhere, but 1.9 (line 24) shows [s] behind [z]. "
-     "Look at the message that replica 0 made for that insert, and at where replica 1 placed it in line 23. Often the clock that decides between inserts does not advance when changes arrive. Where one change brings several elements, the clock must then be above the number of the last one. Or the neighbour is not found. Or elements are stored in runs (blocks of several), and a run is split at a wrong offset (the offset must count deleted elements too).|If inserts find their place by a neighbour, look at inserts beside deleted elements: s came to replica 1 in line 23, where its neighbour r had been "
+     "Look at the message that replica 0 made for that insert, and at where replica 1 placed it in line 23. Often the clock that decides between inserts does not advance when changes arrive. A change may bring several elements: then the clock must go above the last element's number. Or the neighbour is not found. Or elements are stored in runs (blocks of several), and a run is split at a wrong offset (the offset must count deleted elements too).|If inserts find their place by a neighbour, look at inserts beside deleted elements: s came to replica 1 in line 23, where its neighbour r had been "
      "deleted. If replicas throw deleted elements away, nothing says then where the insert belongs; if they keep them, the search for its place must treat them like elements that are shown.|"
      "If the list is sorted by position identifiers, print those of r, s and z at line 22. They must rise in this order. If they do not, look at how the identifier of s was made; if they do, at how "
      "identifiers are compared (numbers must not be compared as text).|If the editor sends positions, the position of s was perhaps not adjusted for the delete of a by 1.2 (line 9), the delete of b "
@@ -150,7 +149,7 @@ WORDS = [
      "[a] before [b]: line 5 of the trace, 1.1: replica 1 inserted b at position 1, answered [a] [b]|"
      "[b] before [a]: line 7, 0.2: replica 0 read the list, answered [b] [a]|"
      "a arrived at replica 1 in line 4, b at replica 0 in line 6|"
-     "When replica 1 inserted [b] (1.1, line 5), it had [a] already (since line 4), and put [b] behind it. That order must hold everywhere, but 0.2 (line 7) shows [b] before [a]. Look at the message that replica 1 made for that insert, and at where replica 0 placed it in line 6. Often the clock that decides between inserts does not advance when changes arrive. Where one change brings several elements, the clock must then be above the number of the last one. Or the neighbour is not found. Or elements are stored in runs (blocks of several), and a run is split at a wrong offset.|"
+     "When replica 1 inserted [b] (1.1, line 5), it had [a] already (since line 4), and put [b] behind it. That order must hold everywhere, but 0.2 (line 7) shows [b] before [a]. Look at the message that replica 1 made for that insert, and at where replica 0 placed it in line 6. Often the clock that decides between inserts does not advance when changes arrive. A change may bring several elements: then the clock must go above the last element's number. Or the neighbour is not found. Or elements are stored in runs (blocks of several), and a run is split at a wrong offset.|"
      "If the list is sorted by position identifiers, print those of a and b at line 5. They must rise in this order. If they do not, look at how the identifier of b was made; if they do, at how identifiers are compared (numbers must not be compared as text)." + stop(6, "replica 0 applies 1.1", 4)),
     ("three-way cycle", 3, THREE_WAY,
      "refused 3: three responses can't be right together. Any two of them can.|"
@@ -175,13 +174,13 @@ WORDS = [
      "c arrived at replica 0 in line 6, d at replica 1 in line 10||Where to look|"
      "If inserts find their place by a neighbour, look at inserts beside deleted elements: d "
      "came to replica 1 in line 10, where its neighbour b had been deleted. If replicas throw deleted elements away, nothing says then where the insert belongs; if they keep them, the search for its place must treat them like elements that are shown.|"
-     "When replica 0 inserted [d] (0.3, line 9), it had [c] already (since line 6), and put [d] before it. That order must hold everywhere, but 1.3 (line 11) shows [d] behind [c]. Look at the message that replica 0 made for that insert, and at where replica 1 placed it in line 10. Often the clock that decides between inserts does not advance when changes arrive. Where one change brings several elements, the clock must then be above the number of the last one. Or the neighbour is not found. Or elements are stored in runs (blocks of several), and a run is split at a wrong offset (the offset must count deleted elements too).|"
+     "When replica 0 inserted [d] (0.3, line 9), it had [c] already (since line 6), and put [d] before it. That order must hold everywhere, but 1.3 (line 11) shows [d] behind [c]. Look at the message that replica 0 made for that insert, and at where replica 1 placed it in line 10. Often the clock that decides between inserts does not advance when changes arrive. A change may bring several elements: then the clock must go above the last element's number. Or the neighbour is not found. Or elements are stored in runs (blocks of several), and a run is split at a wrong offset (the offset must count deleted elements too).|"
      "If the list is sorted by position identifiers, print those of b, d and c at line 9. They must rise in this order. If they do not, look at how the identifier of d was made; if they do, at how identifiers are compared (numbers must not be compared as text).|If the editor "
      "sends positions, the position of d was perhaps not adjusted for the delete of b by 1.2 (line 8), which replica 1 knew and the author of d did not." + stop(10, "replica 1 applies 0.3", 6)),
     ("an insert between two that were put together", 2, "0 ins a 0 : a|0 ins b 1 : a b|1 ins c 0 : c|1 recv 0 2|1 read : a c b|0 recv 1 1|0 read : a b c",
      "[c] before [b]: line 7, 1.2: replica 1 read the list, answered a [c] [b]|Where to look|"
      "[b] was put directly behind [a]. The author of [c] knew neither, and 1.2 (line 7) shows [c] between the two. If inserts find their place by a "
-     "neighbour, look at how [b] found its place when it came to replica 1 in line 6. Its search begins behind [a] and went past [c], which was not put behind [a]: perhaps it had to end before [c].|"
+     "neighbour, look at how [b] found its place when it came to replica 1 in line 6. The search begins behind [a] and went past [c]. But [c] was not inserted with [a] as its neighbour, so perhaps the search should have ended before [c].|"
      "Look at the order of concurrent inserts: b and c were inserted without knowing of each other, and were shown in two different orders. Use a rule that "
      "gives the same order everywhere (such as the replicas' numbers), never the order of arrival. A shortcut, such as for appending, must use this rule too."),
     ("an insert between two that were put together, which came last", 3, "0 ins a 0 : a|0 ins b 1 : a b|1 ins c 0 : c|2 recv 0 2|2 read : a b|2 recv 1 1|2 read : a c b|1 recv 0 2|1 read : a b c",
@@ -192,8 +191,8 @@ WORDS = [
      "their places when they came to replica 2 in line 9: a search that goes past [a] must also go past all that was put behind [a]; in a list that is kept in blocks it must not stop at a block's end.|"),
     ("an insert behind what the other author did not know, which is deleted, and it came last everywhere", 4, "0 ins a 0 : a|0 ins b 1 : a b|0 del a : b|1 ins c 0 : c|2 recv 1 1|2 recv 0 3|2 read : c b|"
      "1 recv 0 3|1 read : b c", "Where to look|"
-     "[b] was put directly behind [a]. The author of [c] did not know [a]. If inserts find their place by a neighbour, look at how [b] found its place when it came to replica 1 in line 10. Its search begins "
-     "behind [a] and went past [c], which was not put behind [a]: perhaps it had to end before [c]. Look also at inserts beside deleted elements: a replica that has thrown away [a] when it was deleted can't know where [b] "
+     "[b] was put directly behind [a]. The author of [c] did not know [a]. If inserts find their place by a neighbour, look at how [b] found its place when it came to replica 1 in line 10. The search begins "
+     "behind [a] and went past [c]. But [c] was not inserted with [a] as its neighbour, so perhaps the search should have ended before [c]. Look also at inserts beside deleted elements: a replica that has thrown away [a] when it was deleted can't know where [b] "
      "belongs.|"),
     ("an insert behind what the other author did not know, which is deleted", 2, "0 ins a 0 : a|0 ins b 1 : a b|0 del a : b|1 ins c 0 : c|1 recv 0 3|"
      "1 read : c b|0 recv 1 1|0 read : b c", "Where to look|"
@@ -428,8 +427,8 @@ WORDS = [
     ("a change that is lost before others of a server's order", 3, "0 ins a 0 : a|0 ins b 0 : b a|1 recv 0 1|1 read : a|1 ins c 1 : a c|2 recv 0 1|"
      "2 ins y 1 : a y|0 recv 2 1|0 recv 1 2|0 read : b a y c|1 recv 2 1|1 read : a c y|0 ins d 4 : b a y c d|0 ins e 5 : b a y c d e|1 recv 0 4|"
      "1 read : a c y d|1 recv 0 5|1 read : a c y d e",
-     "Look first at whether 0.2 (line 4) was lost on its way to replica 1, or overtaken: no receipt there names it, though each other change of "
-     "replica 0, up to the last that came there, has its own. In an editor that sends positions, later changes then land in the wrong place.|"
+     "Look first at whether 0.2 (line 4) was lost on its way to replica 1, or overtaken: no receipt there names it, though receipts there name every "
+     "other change of replica 0 up to the last received. In an editor that sends positions, later changes then land in the wrong place.|"
      "Look at the order of concurrent inserts: c and y were inserted directly behind a without knowing of each other, and were shown in two different orders. Use a "
      "rule that gives the same order everywhere (such as the replicas' numbers), never the order of arrival. A shortcut, such as for appending, must use this rule too."
      + stop(4, "replica 0 inserts b, and follow 0.2 to replica 1")),
@@ -443,7 +442,7 @@ WORDS = [
      "writes the name of the element that was really deleted.|If the editor sends positions, the position of 1.2 was perhaps not adjusted for the insert of c by 0.3 (line 8), which the author of 1.2 had not seen." + stop(9, "replica 0 applies 1.2")),
     ("an insert that another one at its place has shifted", 2, "0 ins b 0 : b|0 ins c 0 : c b|1 ins a 0 : a|1 recv 0 1|1 read : a b|1 recv 0 2|"
      "1 read : a b c",
-     "When replica 0 inserted [c] (0.2, line 4), it had [b] already, and put [c] before it. That order must hold everywhere, but 1.3 (line 9) shows [c] behind [b]. Look at the message that replica 0 made for that insert, and at where replica 1 placed it in line 8. Often the clock that decides between inserts does not advance when changes arrive. Where one change brings several elements, the clock must then be above the number of the last one. Or the neighbour is not found. Or elements are stored in runs (blocks of several), and a run is split at a wrong offset. a was inserted at the same place as c concurrently: check also that every replica puts the same one first." + stop(8, "replica 1 applies 0.2", 6)),
+     "When replica 0 inserted [c] (0.2, line 4), it had [b] already, and put [c] before it. That order must hold everywhere, but 1.3 (line 9) shows [c] behind [b]. Look at the message that replica 0 made for that insert, and at where replica 1 placed it in line 8. Often the clock that decides between inserts does not advance when changes arrive. A change may bring several elements: then the clock must go above the last element's number. Or the neighbour is not found. Or elements are stored in runs (blocks of several), and a run is split at a wrong offset. a was inserted at the same place as c concurrently: check also that every replica puts the same one first." + stop(8, "replica 1 applies 0.2", 6)),
     ("a receipt that comes before the change is applied", 2, "0 ins a 0 : a|1 recv 0 1|1 read : a|0 ins b 1 : a b|0 del a : b|1 recv 0 3|1 read : a",
      "contents 1.2: this response lacks one element that replica 1 should have had by then, and has one element that should not be there.||"
      "Where to look|"
@@ -495,7 +494,7 @@ WORDS = [
      "by then|it lacks a||The list specifications|for the whole trace: strong and weak fail"),
     ("a delete that meets an insert which did not know it", 2, "0 ins a 0 : a|0 ins b 1 : a b|0 ins c 2 : a b c|1 recv 0 3|1 read : a b c|1 del a : b c|"
      "0 ins d 2 : a b d c|1 recv 0 4|1 read : b c d",
-     "When replica 0 inserted [d] (0.4, line 9), it had [c] already, and put [d] before it. That order must hold everywhere, but 1.3 (line 11) shows [d] behind [c]. Look at the message that replica 0 made for that insert, and at where replica 1 placed it in line 10. Often the clock that decides between inserts does not advance when changes arrive. Where one change brings several elements, the clock must then be above the number of the last one. Or the neighbour is not found. Or elements are stored in runs (blocks of several), and a run is split at a wrong offset (the offset must count deleted elements too).|If the editor "
+     "When replica 0 inserted [d] (0.4, line 9), it had [c] already, and put [d] before it. That order must hold everywhere, but 1.3 (line 11) shows [d] behind [c]. Look at the message that replica 0 made for that insert, and at where replica 1 placed it in line 10. Often the clock that decides between inserts does not advance when changes arrive. A change may bring several elements: then the clock must go above the last element's number. Or the neighbour is not found. Or elements are stored in runs (blocks of several), and a run is split at a wrong offset (the offset must count deleted elements too).|If the editor "
      "sends positions, the position of d was perhaps not adjusted for the delete of a by 1.2 (line 8), which replica 1 knew and the author of d did not." + stop(10, "replica 1 applies 0.4", 6)),
     ("a delete that becomes nothing beside an insert that its author did not know", 2, "0 ins a 0 : a|1 recv 0 1|1 read : a|0 del a :|"
      "1 ins b 0 : b a|1 recv 0 2|1 read : b a",
@@ -1273,8 +1272,8 @@ def places(tally: Tally, program: str, folder: str) -> None:
     for name, wanted in FOR_TWO.items():
         got = explain(program, ["--language", name, "-"], text_of(2, "0 ins a 0 : a|0 ins b 1 : a b|1 recv 0 1|1 recv 0 2|1 read : a").encode()).out.decode()
         tally.check(f"a debugger: {name}, receipts that stand together", paragraph(got, "In a debugger").endswith(
-            ". It stops when 4 lines have been recorded, and once more when 5 have, if a call of your editor begins there (one may apply what lines 5 and 6 record). Look at what happens after the last "
-            f"stop.\n    {wanted}"), got)
+            ". It stops when 4 lines have been recorded. Unless one call of your editor applies lines 5 and 6 together, it stops again at 5. Look at what happens after the last stop."
+            f"\n    {wanted}"), got)
     undelivered(tally, program, folder)
     path.write_text(text_of(2, PLACED))
     for beside, wanted in NOTES:
@@ -1321,13 +1320,13 @@ HELD_BACK = "0 ins a 0 : a|1 recv 0 1|1 read : a|1 del a :|0 ins b 1 : a b|0 rec
 
 # Five changes of replica 0, of which these came to replica 1 and 2 by receipts of their own; the last response, replica 2's, lacks one.
 FIVE = "|".join(f"0 ins e{n} {n - 1} : {' '.join(f'e{k}' for k in range(1, n + 1))}" for n in range(1, 6))
-ALSO = "  Look also at whether 0.4 (line 6) was lost on its way to replica 1, or overtaken: no receipt there names it, though each other change of replica 0, up to the last that came there, has its own. "
+ALSO = "  Look also at whether 0.4 (line 6) was lost on its way to replica 1, or overtaken: no receipt there names it, though receipts there name every other change of replica 0 up to the last received. "
 ASTRAY = {
     "another replica lacks one": ([1, 2, 3, 5], [1, 2, 3, 4, 5], "e1 e2 e3 e4", ALSO),
     "it lacks one itself": ([1, 2, 3, 4, 5], [1, 2, 3, 5], "e1 e2 e3 e5",
                             "0.4 was lost on its way to replica 2: no receipt there names it. If it was not lost but overtaken, "),
     "it lacks two": ([1, 2, 3, 4, 5], [1, 3, 5], "e1 e3 e5", "0.2 (line 4) and 0.4 (line 6) were lost on their way to replica 2, or overtaken: no receipt "
-                     "there names them, though each other change of replica 0, up to the last that came there, has its own. "),
+                     "there names them, though receipts there name every other change of replica 0 up to the last received. "),
     "it lacks one that it shows": ([1, 2, 3, 4, 5], [1, 2, 3, 5], "e1 e2 e3 e4", None),
     "two that travel together": ([1, 2, 3, 5], [1, 2, 3, 5], "e1 e2 e3 e4", None),
     "one receipt for all": ([1, 2, 3, 4, 5], [5], "e1 e2 e3 e4", None),
@@ -1337,8 +1336,8 @@ ASTRAY = {
 # Sessions in which a change was lost at a replica that has no answer in the verdict: with a change of that replica which came to such an answer, made when something had come
 # there behind the lost one, or with none, or with one that was made before.
 ALL_RECEIVED = "".join(f"|2 recv 0 {n}" for n in range(1, 6))
-LOST_AT_ONE = ("0.4 (line 6) was lost on its way to replica 1, or overtaken: no receipt there names it, though each other change of replica 0, up to the last that came there, has its own. ")
-NO_PART = "Yet no response above shows anything that replica {} made later. So this hardly explains the fault above; both may come from one bug."
+LOST_AT_ONE = ("0.4 (line 6) was lost on its way to replica 1, or overtaken: no receipt there names it, though receipts there name every other change of replica 0 up to the last received. ")
+NO_PART = "But nothing that replica {} did after that gap is in the responses above, so the gap is hardly their cause. One bug may cause both."
 LISTS_OF_TWO = "0 ins a 0 : a|1 ins b 0 : b|0 ins c 1 : a c|0 ins d 2 : a c d|0 ins e 3 : a c d e|2 recv 0 1|2 recv 0 3|2 recv 0 4|1 recv 0 1|1 recv 0 2|1 recv 0 3|1 recv 0 4|1 read : b a c d e|0 recv 1 1|0 read : a b c d e"
 BEARING = [
     ("where it was lost something was made that came", 3, f"{FIVE}|2 ins w 0 : w|1 recv 0 1|1 recv 0 2|1 recv 0 3|1 recv 2 1|1 ins z 0 : z w e1 e2 e3|1 recv 0 5{ALL_RECEIVED}|2 recv 1 1|"
@@ -1348,8 +1347,8 @@ BEARING = [
      "contents 2.2: ", f"Look also at whether {LOST_AT_ONE}{NO_PART.format(1)}"),
     ("where it was lost something was made before", 3, f"{FIVE}|1 ins z 0 : z|1 recv 0 1|1 recv 0 2|1 recv 0 3|1 recv 0 5{ALL_RECEIVED}|2 recv 1 1|2 read : z e1 e2 e3 e4",
      "contents 2.1: ", f"Look also at whether {LOST_AT_ONE}{NO_PART.format(1)}"),
-    ("a third replica than those that show two orders", 3, LISTS_OF_TWO, "refused 2: ", "Look also at whether 0.2 (line 5) was lost on its way to replica 2, or overtaken: no receipt there names it, though each other "
-     f"change of replica 0, up to the last that came there, has its own. {NO_PART.format(2)}"),
+    ("a third replica than those that show two orders", 3, LISTS_OF_TWO, "refused 2: ", "Look also at whether 0.2 (line 5) was lost on its way to replica 2, or overtaken: no receipt there names it, though receipts there "
+     f"name every other change of replica 0 up to the last received. {NO_PART.format(2)}"),
 ]
 
 

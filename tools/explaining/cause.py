@@ -16,8 +16,8 @@ MOST_MET = 6  # changes for which a position was perhaps not adjusted
 LOST = "Look {when} at whether {changes} {were} lost on {their} way to replica {replica}, or overtaken: no receipt there names {them}, though {others}. "
 NEVER_SENT = "Look {when} at whether replica {author} has sent {changes} at all: no receipt anywhere names {them}, but for those written by the call `delivered`. "
 BEARS = "Replica {replica} made {made} later, perhaps without {them}, and {operation} builds on {name}. "
-BEARS_NOT = "Yet no response above shows anything that replica {replica} made later. So this hardly explains the fault above; both may come from one bug."
-OTHERS_HAVE = "each other change of replica {author}, up to the last that came there, has its own"
+BEARS_NOT = "But nothing that replica {replica} did after that gap is in the responses above, so the gap is hardly their cause. One bug may cause both."
+OTHERS_HAVE = "receipts there name every other change of replica {author} up to the last received"
 ELSEWHERE_ONE = {True: "at another replica it has one", False: "at other replicas they have some"}
 PUT_AT_ONCE = {True: " {others} was inserted at the same place as {element} concurrently: check also that every replica puts the same one first.",
                False: " Check also these pairs, which were inserted at one place concurrently: {pairs}. Of each pair every replica must put the same one first."}

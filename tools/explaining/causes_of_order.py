@@ -10,11 +10,11 @@ from .positions import are_put_at_once, elements_before, is_known, list_of, met_
 from .recordings import Operation, Receipt, place_asked
 from .telling import at, counted, joined, listed, marked
 
-NUMBERS_OF_INSERTS = (" Often the clock that decides between inserts does not advance when changes arrive. Where one change brings several elements, the clock must then be above the number of the last one. Or the "
+NUMBERS_OF_INSERTS = (" Often the clock that decides between inserts does not advance when changes arrive. A change may bring several elements: then the clock must go above the last element's number. Or the "
                       "neighbour is not found. Or elements are stored in runs (blocks of several), and a run is split at a wrong offset{deleted}.")
 OF_INSERTS = {
     "": NUMBERS_OF_INSERTS, NEIGHBOURS: NUMBERS_OF_INSERTS, POSITIONS: " Client and server must adjust in the same way, and each change only once.", IDENTIFIERS: "",
-    TREE: " Often the clock that decides between children does not advance when changes arrive. Where one change brings several elements, the clock must then be above the number of the last one. Or the parent is not "
+    TREE: " Often the clock that decides between children does not advance when changes arrive. A change may bring several elements: then the clock must go above the last element's number. Or the parent is not "
           "the one that the author meant{deleted}.",
 }
 DELETED_TOO = {"": " (the offset must count deleted elements too)", NEIGHBOURS: " (the offset must count deleted elements too)", TREE: ", as where the element beside it is deleted", IDENTIFIERS: "", POSITIONS: ""}
@@ -76,8 +76,8 @@ HIDDEN_ORDER = ("[{new}] was put directly {side} {hidden} ({insert}), and {hidde
                 "too. So look first at where these concurrent inserts were put when they arrived: {arrivals}.")
 PAST = ("If inserts find their place by a neighbour, look at how {found}{when}: a search that goes past [{behind}] must also go past all that was put behind [{behind}]; in a "
         "list that is kept in blocks it must not stop at a block's end.")
-BEGUN = ("If inserts find their place by a neighbour, look at how [{element}] found its place{when}. Its search begins behind [{behind}] and went past [{other}], which "
-         "was not put behind [{behind}]: perhaps it had to end before [{other}].")
+BEGUN = ("If inserts find their place by a neighbour, look at how [{element}] found its place{when}. The search begins behind [{behind}] and went past [{other}]. But "
+         "[{other}] was not inserted with [{behind}] as its neighbour, so perhaps the search should have ended before [{other}].")
 WHEN_CAME = " when {it} came to replica {replica} in line {line}"
 INSIDE = ("{operation} shows [{new}] between [{left}] and [{right}], though [{one}] was put directly {side} [{beside}] by {insert}, which did not know of it. In a tree an element stands beside a "
           "sibling and all that hangs on that: look at how the place before or behind a sibling is found, by the first or last of all that hangs on it, and only then at the order of "

@@ -141,9 +141,8 @@ def statement(recording: Recording, entry: Operation | Receipt, language: str) -
     first = first_together(recording, entry)
     then, asked = f"It stops when {entry.line - 1} lines have been recorded.", words.format(entry.line - 1)
     if first < entry.line:
-        together = f"lines {first} and {entry.line}" if first + 1 == entry.line else f"several of lines {first} to {entry.line}"
-        then = (f"It stops when {first - 1} lines have been recorded, and once more when {entry.line - 1} have, if a call of your editor begins there (one may apply what {together} record). "
-                "Look at what happens after the last stop.")
+        one = f"lines {first} and {entry.line} together, it stops" if first + 1 == entry.line else f"all of lines {first} to {entry.line}, it may stop"
+        then = f"It stops when {first - 1} lines have been recorded. Unless one call of your editor applies {one} again at {entry.line - 1}. Look at what happens after the last stop."
         asked = FOR_TWO[language].format(first - 1, entry.line - 1)
     return [f"In {name}, put this code {READS if is_read else BEGINS}. {then}", f"  {asked}"]
 
