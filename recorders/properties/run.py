@@ -35,7 +35,7 @@ from random_sessions import DEBIAN_CRATES, install
 CARGO = DEBIAN_CRATES + """
 mkdir -p "$OUT/src"
 cp "$HERE/with_proptest.rs" "$OUT/src/lib.rs"
-cp "$HERE/../domepeeler.rs" "$OUT/src"
+cp "$HERE/../domepeeler.rs" "$HERE/../domepeeler_native.rs" "$OUT/src"
 cat > "$OUT/Cargo.toml" <<END
 [package]
 name = "properties"
@@ -44,10 +44,20 @@ edition = "2021"
 [dev-dependencies]
 crdts = "7.2"
 proptest = { version = "1.0", default-features = false, features = ["std"] }
+[features]
+native = []
 [profile.dev]
 debug = 0
 END
-cd "$OUT" && cargo test --quiet --offline 2>&1
+cd "$OUT"
+LIBRARY=$(dirname "$(dirname "$DOMEPEELER")")/lib
+if [ -f "$LIBRARY/libdomepeeler.a" ]; then
+    echo "judged by $LIBRARY/libdomepeeler.a"
+    unset DOMEPEELER
+    RUSTFLAGS="-L $LIBRARY" cargo test --quiet --offline --features native 2>&1
+else
+    cargo test --quiet --offline 2>&1
+fi
 """
 
 # Of each test: packages, the command, what it must say of the engine without a fault and of the other.

@@ -4,13 +4,16 @@
 //! For an editor whose server orders all changes, ask in `check` for `verdict.is_weak()`, and for `recording.warnings()`.
 //!
 //! To stop a debugger in the call that answered wrong, run the steps that failed alone, with `Recording::new(REPLICAS)?.stop()?` in
-//! `Group::new`: it starts the program at each call. By libdomepeeler each verdict takes microseconds: copy domepeeler_native.rs too, and let
-//! `Group::new` begin with `domepeeler::judge_here(domepeeler_native::verdict)`.
+//! `Group::new`: it starts the program at each call.
+//!
+//! With the feature `native` libdomepeeler judges, in microseconds: run.py asks for it where the library is installed beside the program.
 //!
 //! The second test fails, and is meant to: it shows what a failure looks like, and leaves the recording in failed.trace.
 //! There an operation may arrive before what its author had seen, which this list doesn't bear.
 #![cfg(test)]
 mod domepeeler;
+#[cfg(feature = "native")]
+mod domepeeler_native;
 
 use crdts::{list::Op, CmRDT, List};
 use domepeeler::{Recording, Refused, Verdict};
@@ -33,6 +36,8 @@ struct Group {
 
 impl Group {
     fn new() -> Result<Group, Refused> {
+        #[cfg(feature = "native")]
+        domepeeler::judge_here(domepeeler_native::verdict);
         let (lists, has) = (vec![List::new(); REPLICAS], vec![Vec::new(); REPLICAS]);
         Ok(Group { recording: Recording::new(REPLICAS)?, lists, has })
     }

@@ -21,6 +21,7 @@ from pathlib import Path
 
 ROOT = Path(__file__).resolve().parents[2]
 sys.path.insert(0, str(ROOT / "tests"))
+from shared.mutants import edited, mutated, some_bytes  # noqa: E402
 from shared.program import Ended, Quick, Tally, install, is_installed, need, program_of  # noqa: E402
 from shared.sessions import session, with_fault  # noqa: E402
 
@@ -116,7 +117,8 @@ def texts(rnd: random.Random) -> list:
     found = [path.read_bytes() for folder in ("tests/vectors", "examples") for path in sorted((ROOT / folder).glob("*.trace"))]
     short = [text for text in found if 0 < len(text) <= 4096]
     cut = [text[:rnd.randrange(len(text))] for text in short for _ in range(10)]
-    return found + cut + [changed(rnd, text) for text in short for _ in range(20)] + [b"", b"\n", b"trace 1\n", b"trace 1\nreplicas 1\n", b"\xff" * 99]
+    mutants = [edited(rnd, text) if rnd.random() < 0.5 and text.count(b"\n") > 2 else mutated(rnd, text, rnd.choice(short)) for text in rnd.choices(short, k=1_000)]
+    return found + cut + mutants + [some_bytes(rnd) for _ in range(100)] + [changed(rnd, text) for text in short for _ in range(20)] + [b"", b"\n", b"trace 1\n", b"trace 1\nreplicas 1\n", b"\xff" * 99]
 
 
 def generated(tally: Tally, library: Library, quick: Quick, rnd: random.Random) -> None:
