@@ -1798,7 +1798,7 @@ static inline char *domepeeler_linked(struct domepeeler *d, int is_json) {
         room = end.length;
         if (end.status == DOMEPEELER_END_NO_ROOM) continue;
         if (end.status <= DOMEPEELER_END_NOT_ACCEPTED && domepeeler_agrees(d, report, (int)end.status)) return report;
-        domepeeler_fail(d, "libdomepeeler ended with status %u: %.160s", (unsigned)end.status, end.length ? report : "memory");
+        domepeeler_fail(d, "libdomepeeler ended with status %u: %.160s", (unsigned)end.status, end.length ? report : end.line ? "a faulty line" : "memory");
         free(report);
         return NULL;
     }

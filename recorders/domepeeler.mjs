@@ -1131,7 +1131,8 @@ function library({ fs, path: { delimiter, dirname, join }, url }) {
       return false
     }
   })
-  const inPackage = import.meta.url.startsWith("file:") ? [url.fileURLToPath(new URL(ADDON, import.meta.url))] : []
+  const beside = [ADDON, `../../../lib/domepeeler/${ADDON}`] // in a package, and as tools/install puts both
+  const inPackage = import.meta.url.startsWith("file:") ? beside.map((file) => url.fileURLToPath(new URL(file, import.meta.url))) : []
   const installed = program ? [join(dirname(dirname(fs.realpathSync(program))), "lib", "domepeeler", ADDON)] : []
   const path = asked ? join(dirname(asked), ADDON) : [...inPackage, ...installed].find((file) => fs.existsSync(file))
   if (!path) return null

@@ -1147,8 +1147,9 @@ def _library() -> Optional[Callable[[bytes], Tuple[str, subprocess.CompletedProc
 
     asked, program = os.environ.get("DOMEPEELER_LIBRARY"), shutil.which("domepeeler")
     in_package = os.path.join(os.path.dirname(os.path.abspath(__file__)), os.path.basename(LIBRARY))
-    installed = [os.path.join(os.path.dirname(os.path.dirname(os.path.realpath(program))), LIBRARY)] if program else []
-    path = asked or next(filter(os.path.isfile, [in_package, *installed]), "")
+    prefixes = [os.path.join(os.path.dirname(os.path.abspath(__file__)), "..", "..", "..")]  # where this file lies as tools/install puts it
+    prefixes += [os.path.dirname(os.path.dirname(os.path.realpath(program)))] if program else []
+    path = asked or next(filter(os.path.isfile, [in_package, *(os.path.normpath(os.path.join(prefix, LIBRARY)) for prefix in prefixes)]), "")
     if not path:
         return None
     try:
@@ -1178,7 +1179,7 @@ def _library() -> Optional[Callable[[bytes], Tuple[str, subprocess.CompletedProc
         said = room.raw[:end.length]
         if end.status in (0, 1):
             return path, subprocess.CompletedProcess([path], end.status, said, b"")
-        return path, subprocess.CompletedProcess([path], end.status, b"", b"finder: " + (said or b"memory"))
+        return path, subprocess.CompletedProcess([path], end.status, b"", b"finder: " + (said or (b"line %d" % end.line if end.line else b"memory")))
 
     return judged
 

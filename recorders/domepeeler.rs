@@ -768,7 +768,7 @@ impl Recording {
 
     /// The report of the program at this path.
     pub fn judge_by(&self, program: &str) -> Result<Answer, String> {
-        self.heard(self.judged_by(program)).map(Answer)
+        self.heard(self.report_by(program)).map(Answer)
     }
 
     /// What was answered of the recording, which somebody has by that; or why not.
@@ -780,7 +780,7 @@ impl Recording {
         answer
     }
 
-    fn judged_by(&self, program: &str) -> Result<String, String> {
+    fn report_by(&self, program: &str) -> Result<String, String> {
         let done = self.ask(program, &["verdict", "--json", "-"], "DOMEPEELER to the program's path", "no report")?;
         if !done.stdout.starts_with(b"{") {
             return Err(ended(program, &done, "no report"));

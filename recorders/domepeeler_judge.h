@@ -1,13 +1,14 @@
 /* Judges recordings in your own process, by the library libdomepeeler.
  *
- *     cc test.c -ldomepeeler        or:  cc test.c $(pkg-config --cflags --libs domepeeler)
+ *     cc test.c $(pkg-config --cflags --libs domepeeler)    or where the compiler looks there by itself: cc test.c -ldomepeeler
  *
  *     char report[65536];
  *     struct domepeeler_end end = domepeeler_verdict(trace, strlen(trace), 0, report, sizeof report);
  *     if (end.status != DOMEPEELER_END_ACCEPTED) printf("%.*s", end.status == DOMEPEELER_END_NO_ROOM ? 0 : (int)end.length, report);
  *
  * Each call reads what it is given and writes into the room that it is given, and nothing else. It starts no thread and keeps nothing, so calls
- * may be made from many threads at once. Memory comes from malloc() and goes back by free() before the call ends.
+ * may be made from many threads at once. Memory comes from malloc() and realloc(), and goes back by free() before the call
+ * ends.
  *
  * Don't call from a signal handler, nor in the forked child of a process that has threads: there run the program domepeeler.
  * Pointers are not NULL, even where the length is 0. The room does not overlap what is read. Nothing checks this of a C program. */
@@ -24,9 +25,9 @@ extern "C" {
 enum {
     DOMEPEELER_END_ACCEPTED = 0,     /* as the exit status of the command: some order has all responses; of verify: yes */
     DOMEPEELER_END_NOT_ACCEPTED = 1, /* a fault, or no order has all responses; of verify: no */
-    DOMEPEELER_END_NO_TRACE = 2,     /* the text is no trace: `line` is the first faulty line, and the output says why */
+    DOMEPEELER_END_NO_TRACE = 2,     /* the text is no trace: `line` is the first faulty line, and the output says why, if there was memory for it */
     DOMEPEELER_END_NO_MEMORY = 3,    /* malloc() failed: there is no output */
-    DOMEPEELER_END_NO_ROOM = 4       /* the room has fewer than `length` bytes: nothing was written */
+    DOMEPEELER_END_NO_ROOM = 4       /* the room has fewer than `length` bytes: nothing was written, so call again with as many */
 };
 
 /* How a call ended. */

@@ -9,8 +9,10 @@
 //! domepeeler::judge_here(domepeeler_native::verdict); // unless a call or $DOMEPEELER names a program
 //! ```
 //!
-//! The linker finds the library by `RUSTFLAGS="-L $HOME/.local/lib"` or the like, or by a build script that prints
-//! `cargo:rustc-link-search=native=..`. It is linked statically. docs/library.md says where it comes from.
+//! For an integration test copy this file to tests/domepeeler_native/mod.rs. The linker finds the library by `RUSTFLAGS="-L $HOME/.local/lib"` or the
+//! like, or by a build script that prints `cargo:rustc-link-search=native=..`. It is linked statically. docs/library.md says where it comes from.
+//!
+//! It is written for the editions up to 2021: in a crate of edition 2024 write `unsafe extern "C"` below.
 
 /// `struct domepeeler_end` of domepeeler_judge.h.
 #[repr(C)]
@@ -41,8 +43,11 @@ pub fn verdict(trace: &str, json: bool) -> (i32, Vec<u8>, Vec<u8>) {
                 return (i32::from(end.status == 1), output, Vec::new());
             }
             status => {
-                let why: &[u8] = if end.length == 0 { b"memory" } else { &output[..end.length] };
-                return (if status == 2 { 2 } else { 3 }, Vec::new(), [b"finder: ", why, b"\n"].concat());
+                output.truncate(end.length);
+                if end.length == 0 {
+                    output = if end.line == 0 { b"memory".to_vec() } else { format!("line {}", end.line).into_bytes() };
+                }
+                return (if status == 2 { 2 } else { 3 }, Vec::new(), [b"finder: ", output.as_slice(), b"\n"].concat());
             }
         }
     }

@@ -6,6 +6,7 @@
 #include "../domepeeler_judge.h"
 
 #include <node_api.h>
+#include <stdio.h>
 #include <stdlib.h>
 #include <string.h>
 
@@ -27,7 +28,9 @@ static napi_value ended(napi_env env, struct domepeeler_end end, const char *out
     char words[256];
     size_t length = 0;
     if (!is_report) {
-        const char *why = end.length ? output : "memory";
+        char line[32];
+        snprintf(line, sizeof line, end.line ? "line %u" : "memory", (unsigned)end.line);
+        const char *why = end.length ? output : line;
         size_t more = end.length ? end.length : strlen(why), room = sizeof words - sizeof before;
         memcpy(words, before, length = sizeof before - 1);
         memcpy(words + length, why, more < room ? more : room);

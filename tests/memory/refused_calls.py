@@ -38,6 +38,8 @@ MOST = 20_000
 
 # The calls of the program alone, which are no crate's surface; the list is kept by hand.
 ENGINES = ("live",)
+# The calls that no crate's test makes, since libdomepeeler alone asks for them: tests/program/library.py refuses each request of its calls in turn.
+OF_LIBRARY = ("least_conflict_in_turn", "verdict_and_graph_in_turn", "judge_and_write_in_turn", "report_on_text", "certificate_on_text")
 # The calls whose answer has a place for out of memory that they never give, and how that is known.
 NEVER = {
     "Recording::room": "takes no memory, and its clause tells the answer, memory apart",
@@ -79,7 +81,7 @@ TESTS = {
     "Sight::of": ("visibility", "a_chain_of_receipts_is_seen", "a_receipt_tells_what_comes_after_it"),
     "first_fault": ("contents_check", "contents_are_those_that_are_visible", "doubled_names_come_first"),
     "contents_check::check": ("contents_check", "sound_recordings_have_no_fault", "inserts_stand_where_they_were_asked_for"),
-    "check_in_turn": ("contents_check", "one_thread_finds_the_same_fault"),
+    "contents_check::check_in_turn": ("contents_check", "one_thread_finds_the_same_fault"),
     "Covering::add": ("contents_check", "one_thread_finds_the_same_fault"),
     "Covering::append": ("contents_check", "sound_recordings_have_no_fault"),
     "Rows::push_row": ("contents_check", "one_thread_finds_the_same_fault"),
@@ -130,7 +132,10 @@ TESTS = {
     "certificate_text::push_row": ("certificate", "certificates_written_row_by_row"),
     "Certificate::read": ("certificate_text", "certificates_are_read_and_written_again"),
     "cert_check::check": ("cert_check", "valid_certificates", "reasons_against_certificates"),
+    "cert_check::check_in_turn": ("cert_check", "valid_certificates", "reasons_against_certificates"),
     "check_recording": ("engines", "right_trace_is_judged"),
+    "check_recording_in_turn": ("engines", "right_trace_is_judged"),
+    "engines::line_of": ("engines", "right_trace_is_judged"),
     "Session::open": ("sessions", "sessions_have_1_to_16_replicas"),
     "Session::record": ("sessions", "two_passes"),
     "snapshot": ("sessions", "two_passes"),
@@ -238,7 +243,7 @@ def named(name: str, calls: list[str]) -> list[str]:
 
 def check_names(tally: Tally) -> None:
     """Each call of the surface has one name in the lists here, and each name stands for one call."""
-    calls, names = surface(), [name for name in (*TESTS, *NEVER) if name not in ENGINES]
+    calls, names = surface(), [name for name in (*TESTS, *NEVER, *OF_LIBRARY) if name not in ENGINES]
     for call in calls:
         tally.check(f"{call} has a test, or a reason to have none", sum(call in named(name, [call]) for name in names) == 1)
     for name in names:
