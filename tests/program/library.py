@@ -391,6 +391,8 @@ def main() -> None:
     program = program_of(sys.argv)
     for command, package in ("cc", "gcc"), ("c++", "g++"), ("clang", "clang"), ("pkg-config", "pkg-config"), ("node", "nodejs"), ("npm", "npm"), ("rustc", "rustc"), ("cargo", "cargo"):
         need(command, package)
+    if not any(Path(folder, "node_api.h").exists() for folder in ("/usr/include/node", "/usr/include/nodejs/src")):
+        install(["libnode-dev"])
     install([package for package in ("python3-pip", "python3-setuptools", "python3-wheel") if not is_installed(package)])
     rnd, tally = random.Random(SEED), Tally()
     with tempfile.TemporaryDirectory() as name:
